@@ -1,0 +1,10 @@
+pub mod Sums
+pub mod SumsLaws
+pub mod Rounding
+pub mod RoundingLaws
+pub mod Least
+pub mod LeastLaws
+pub mod Filled
+pub mod FilledLaws
+pub mod Tests
+pub mod TestsLaws

@@ -1,0 +1,1 @@
+// Mathematics that knows no plan: definitions and laws alone, no function.
