@@ -8,3 +8,4 @@ pub mod Filled
 pub mod FilledLaws
 pub mod Tests
 pub mod TestsLaws
+pub mod ListLaws
