@@ -1,11 +1,13 @@
 -- Laws of tests.
 use Prim.Native.Nat.{ℕ, zero, suc, _+_, _≤_, _<_}
 use mathlib.Core.Path.{_≡_, refl, sym, _∙_}
-use mathlib.Core.Bool.{Bool, true, false, _&&_}
+use mathlib.Core.Bool.{Bool, true, false, cond, _&&_}
+use borrow.Author.Tests.{lt-ltb, le-ltb}
+use lib.Dec.{ltb}
 use native.Mathlib.Omega.{arith}
 use native.Mathlib.Numerals.{add-one}
 use native.Mathlib.Decide.{decLt}
-use Rattle.facts.specs.Tests.{all}
+use Rattle.facts.specs.Tests.{all, lowest}
 
 -- A test cannot both pass and fail.
 pub clash : {b : Bool} → b ≡ true → b ≡ false → ⊥
@@ -62,3 +64,46 @@ pub all-of : (n : ℕ) (f : ℕ → Bool) → ((k : ℕ) → k < n → f k ≡ t
 unfolding all
 all-of zero f h = refl
 all-of (suc n) f h = and-true (all-of n f (λ k l. h k (omega arith))) (h n (omega arith))
+
+-- What a search for the lowest finds: nothing among n, or the first that passes.
+pub data Lowest (n : ℕ) (f : ℕ → Bool) : ℕ → Type 0 where
+  nowhere : ((k : ℕ) → k < n → f k ≡ false) → Lowest n f n
+  here : (i : ℕ) → i < n → f i ≡ true → ((k : ℕ) → k < i → f k ≡ false) → Lowest n f i
+
+pub lowest-found : (n : ℕ) (f : ℕ → Bool) → Lowest n f (lowest n f)
+unfolding lowest
+lowest-found zero f = nowhere (λ k l. absurd (omega arith))
+lowest-found (suc n) f = go (lowest-found n f)
+  where
+    go : {i : ℕ} → Lowest n f i → Lowest (suc n) f (cond (ltb i n) i (cond (f n) n (suc n)))
+    go (here i l e h) = rw (lt-ltb i n l) (here i (omega arith) e h)
+    go (nowhere h) = rw (le-ltb n n (omega arith)) (last (f n) refl)
+      where
+        last : (b : Bool) → f n ≡ b → Lowest (suc n) f (cond b n (suc n))
+        last true e = here n (omega arith) e h
+        last false e = nowhere (λ k l. below k l (decLt k n))
+          where
+            below : (k : ℕ) → k < suc n → Dec (k < n) → f k ≡ false
+            below k l (yes m) = h k m
+            below k l (no m) = let q : k ≡ n = omega arith in rw q e
+
+-- A search that has passed n numbers in vain goes on with the next.
+pub lowest-none : (n : ℕ) (f : ℕ → Bool) → ((k : ℕ) → k < n → f k ≡ false) → lowest n f ≡ n
+lowest-none n f h = go (lowest-found n f)
+  where
+    go : {i : ℕ} → Lowest n f i → i ≡ n
+    go (nowhere g) = refl
+    go (here i l e g) = absurd (clash e (h i l))
+
+-- The first that passes is the lowest of any number more.
+pub lowest-here : (n : ℕ) (f : ℕ → Bool) (i : ℕ) → i < n → f i ≡ true → ((k : ℕ) → k < i → f k ≡ false) → lowest n f ≡ i
+lowest-here n f i l e h = go (lowest-found n f)
+  where
+    go : {j : ℕ} → Lowest n f j → j ≡ i
+    go (nowhere g) = absurd (clash e (g i l))
+    go (here j m d g) = same (decLt j i) (decLt i j)
+      where
+        same : Dec (j < i) → Dec (i < j) → j ≡ i
+        same (yes a) b = absurd (clash d (h j a))
+        same (no a) (yes b) = absurd (clash e (g i b))
+        same (no a) (no b) = omega arith
