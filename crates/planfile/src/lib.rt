@@ -1,0 +1,5 @@
+// The plan file (document 01, "The plan on paper"): reading and writing, each of which undoes the other.
+
+pub mod line;
+pub mod read;
+pub mod write;
