@@ -16,3 +16,8 @@ module _ {A : Type 0} where
   -- The list l with the list new laid over its front; the rest stays.
   abbrev pub laid : List A → List A → List A
   laid new l = new ++ drop (length new) l
+
+  -- f 0, .., f (n - 1) one after another.
+  unfoldable pub joined : ℕ → (ℕ → List A) → List A
+  joined zero f = []
+  joined (suc n) f = joined n f ++ f n

@@ -1,13 +1,13 @@
 -- Laws of lists filled from the front.
 use mathlib.Core.Path.{_≡_, refl, sym, _∙_, ap}
 use mathlib.Core.List.{List, [], _∷_, _++_, append-assoc}
-use Prim.Native.Nat.{ℕ, zero, suc, _+_, _-_, _≤_, _<_}
+use Prim.Native.Nat.{ℕ, zero, suc, _+_, _*_, _-_, _≤_, _<_}
 use native.Mathlib.Numerals.{add-one}
 use native.Mathlib.Omega.{arith}
 use native.Mathlib.Decide.{decLt}
 use lib.ListN.{length, getD, set, take, drop, length-append, length-drop, List·getD-append}
 use lib.Seq.{drop-cons, set-at, getD-at, getD-append-add, getD-drop, ext-getD, length-take-le, getD-take}
-use Rattle.facts.specs.Filled.{tab, filled, laid}
+use Rattle.facts.specs.Filled.{tab, filled, laid, joined}
 
 module _ {A : Type 0} where
   pub length-tab : (f : ℕ → A) (n : ℕ) → length (tab f n) ≡ n
@@ -81,3 +81,26 @@ module _ {A : Type 0} where
 
   pub length-laid : (new l : List A) → length new ≤ length l → length (laid new l) ≡ length l
   length-laid new l h = omega (arith, length-append new (drop (length new) l), length-drop (length new) l)
+
+  pub joined-none : (f : ℕ → List A) → joined 0 f ≡ []
+  unfolding joined
+  joined-none f = refl
+
+  pub joined-more : (n : ℕ) (f : ℕ → List A) → joined (n + 1) f ≡ joined n f ++ f n
+  unfolding joined
+  joined-more n f = rw (add-one n) refl
+
+  pub joined-ext : (n : ℕ) (f g : ℕ → List A) → ((i : ℕ) → i < n → f i ≡ g i) → joined n f ≡ joined n g
+  unfolding joined
+  joined-ext zero f g h = refl
+  joined-ext (suc n) f g h =
+      let a : joined n f ≡ joined n g = joined-ext n f g (λ i l. h i (omega arith)) in
+      let b : f n ≡ g n = h n (omega arith) in
+      cc
+
+  -- Each part at most m long: the whole at most n × m.
+  pub joined-most : (n m : ℕ) (f : ℕ → List A) → ((i : ℕ) → i < n → length (f i) ≤ m) → length (joined n f) ≤ n * m
+  unfolding joined
+  joined-most zero m f h = omega arith
+  joined-most (suc n) m f h =
+      omega (arith, length-append (joined n f) (f n), joined-most n m f (λ i l. h i (omega arith)), h n (omega arith))
