@@ -9,3 +9,4 @@ pub mod FilledLaws
 pub mod Tests
 pub mod TestsLaws
 pub mod ListLaws
+pub mod OutcomesLaws

@@ -8,3 +8,4 @@ pub mod RangesLaws
 pub mod TableLaws
 pub mod PlanLaws
 pub mod ViewLaws
+pub mod OutcomesLaws
