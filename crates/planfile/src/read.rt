@@ -1,6 +1,25 @@
 // Reading a plan file into lent lists.
 
+use crate::due::Due;
+use crate::due::advance;
+use crate::due::first;
+use crate::due::own_number;
+use crate::line::Line;
+use crate::line::line_at;
+use table::keys;
+use table::ranges::in_range;
 use table::refusal::Refusal;
+ghost use mathlib.Core.Path.{_≡_};
+ghost use mathlib.Core.Bool.{true};
+ghost use Prim.Native.Nat.{_≤_, _<_};
+ghost use lib.ListN.{length, take};
+ghost use Rattle.facts.specs.Filled.{laid};
+ghost use Rattle.table.specs.Table.{longEnough};
+ghost use Rattle.planfile.specs.DueLaws.{Few};
+ghost use Rattle.planfile.specs.Line.{lineAt};
+ghost use Rattle.planfile.specs.Reading.{Lists, ReadOutcome, held, read, readOf};
+ghost use Rattle.planfile.specs.Reader.{asksTooMany, judgement, listsOf, stored};
+ghost use Rattle.planfile.specs.ReaderLaws.{FoundIn, Roomy, Sized, Slots};
 
 // The counts of a table.
 pub struct Counts {
@@ -12,4 +31,238 @@ pub struct Counts {
 pub enum Reading {
     Read(Counts),
     Refused(Refusal),
+}
+
+// At most so many bytes.
+const MOST_BYTES: usize = 8192;
+
+// At most so many rows in all.
+const MOST_ROWS: u64 = 128;
+
+// At most so many tasks.
+const MOST_TASKS: u64 = 32;
+
+// A line that is judged: its value and where the next line starts, or why it is refused.
+enum Judged {
+    Right(u64, usize),
+    Wrong(Refusal),
+}
+
+// What the lines hold: a table of so many processors, tasks and rows, or a refusal.
+enum Found {
+    Table(u64, u64, u64),
+    Refused(Refusal),
+}
+
+// Whether this value of the key due brings the rows above 128.
+fn asks_too_many(due: Due, value: u64) -> bool
+    requires { ⌜ Few due × (value ≤ 1000000000) ⌝ }
+    ensures { λ r. ⌜ r ≡ asksTooMany due value ⌝ }
+{
+    if due.key != keys::STEPS {
+        return false;
+    }
+    MOST_ROWS < due.asked + value
+}
+
+// The line due, judged: its form, then its range, then the rows that it asks for.
+fn judge(file: &[u8], place: usize, number: u64, due: Due) -> Judged
+    requires { ⌜ Few due ⌝ }
+    ensures { λ r. ⌜ r ≡ judgement number due (lineAt (now (file .entry)) place (due .key)) ⌝ }
+{
+    let line = line_at(file, place, due.key);
+    match line {
+        Line::Value(value, behind) => {
+            if !in_range(due.key, own_number(due), value) {
+                return Judged::Wrong(Refusal::OutOfRange(number));
+            }
+            if asks_too_many(due, value) {
+                return Judged::Wrong(Refusal::TooManyRows(number));
+            }
+            Judged::Right(value, behind)
+        }
+        Line::Fault => Judged::Wrong(Refusal::NotTheLineDue(number)),
+    }
+}
+
+// Stores the value in the list of the key due, at the task or the row that is given.
+fn store(
+    due: Due,
+    value: u64,
+    period: &mut [u64],
+    deadline: &mut [u64],
+    steps: &mut [u64],
+    processor: &mut [u64],
+    priority: &mut [u64],
+    time: &mut [u64],
+)
+    requires { ⌜ Slots due (listsOf (now period) (now deadline) (now steps) (now processor) (now priority) (now time)) ⌝ }
+    ensures { λ r. ⌜ _≡_ {A = Lists} (listsOf (now (period .exit)) (now (deadline .exit)) (now (steps .exit)) (now (processor .exit)) (now (priority .exit)) (now (time .exit)))
+        (stored (due .key) (due .task) (due .row) value (listsOf (now (period .entry)) (now (deadline .entry)) (now (steps .entry)) (now (processor .entry)) (now (priority .entry)) (now (time .entry)))) ⌝ }
+{
+    let key = due.key;
+    let task = due.task as usize;
+    let row = due.row as usize;
+    match key {
+        keys::PERIOD => {
+            period[task] = value;
+        }
+        keys::DEADLINE => {
+            deadline[task] = value;
+        }
+        keys::STEPS => {
+            steps[task] = value;
+        }
+        keys::PROCESSOR => {
+            processor[row] = value;
+        }
+        keys::PRIORITY => {
+            priority[row] = value;
+        }
+        keys::TIME => {
+            time[row] = value;
+        }
+        _ => {}
+    }
+}
+
+// Reads line by line into the lists, and answers what the lines hold.
+fn read_lines(
+    file: &[u8],
+    period: &mut [u64],
+    deadline: &mut [u64],
+    steps: &mut [u64],
+    processor: &mut [u64],
+    priority: &mut [u64],
+    time: &mut [u64],
+) -> Found
+    requires { ⌜ Sized (listsOf (now period) (now deadline) (now steps) (now processor) (now priority) (now time)) ⌝ }
+    ensures { λ r. ⌜ FoundIn (now (file .entry)) r (listsOf (now (period .exit)) (now (deadline .exit)) (now (steps .exit)) (now (processor .exit)) (now (priority .exit)) (now (time .exit))) ⌝ }
+{
+    let mut due = first();
+    let mut place: usize = 0;
+    let mut number: u64 = 1;
+    while due.key < keys::KEYS {
+        let judged = judge(file, place, number, due);
+        match judged {
+            Judged::Right(value, behind) => {
+                store(
+                    due,
+                    value,
+                    period,
+                    deadline,
+                    steps,
+                    processor,
+                    priority,
+                    time,
+                );
+                due = advance(due, value);
+                place = behind;
+                number += 1;
+            }
+            Judged::Wrong(refusal) => {
+                return Found::Refused(refusal);
+            }
+        }
+    }
+    if place != file.len() {
+        return Found::Refused(Refusal::NotTheLineDue(number));
+    }
+    Found::Table(due.processors, due.tasks, due.row)
+}
+
+// Lays the first entries of a list over the front of another.
+fn lay(from: &[u64], count: usize, over: &mut [u64])
+    requires { ⌜ (count ≤ length (now from)) × (count ≤ length (now over)) ⌝ }
+    ensures { λ r. ⌜ now (over .exit) ≡ laid (take count (now (from .entry))) (now (over .entry)) ⌝ }
+{
+    let mut i = 0;
+    while i < count {
+        over[i] = from[i];
+        i += 1;
+    }
+}
+
+// Whether three lists have room for so many entries.
+fn has_room(count: usize, a: &[u64], b: &[u64], c: &[u64]) -> bool
+    ensures { λ r. ⌜ r ≡ longEnough count (now (a .entry)) (now (b .entry)) (now (c .entry)) ⌝ }
+{
+    if a.len() < count {
+        return false;
+    }
+    if b.len() < count {
+        return false;
+    }
+    count <= c.len()
+}
+
+// Reads the file's table into lists that have room for any.
+fn read_table(
+    file: &[u8],
+    period: &mut [u64],
+    deadline: &mut [u64],
+    steps: &mut [u64],
+    processor: &mut [u64],
+    priority: &mut [u64],
+    time: &mut [u64],
+) -> Reading
+    requires { ⌜ Roomy (listsOf (now period) (now deadline) (now steps) (now processor) (now priority) (now time)) ⌝ }
+    ensures { λ r. ⌜ _≡_ {A = ReadOutcome} (record { answer = r; lists = listsOf (now (period .exit)) (now (deadline .exit)) (now (steps .exit)) (now (processor .exit)) (now (priority .exit)) (now (time .exit)) })
+        (readOf (held (now (file .entry))) (listsOf (now (period .entry)) (now (deadline .entry)) (now (steps .entry)) (now (processor .entry)) (now (priority .entry)) (now (time .entry)))) ⌝ }
+{
+    let mut periods = [0u64; 32];
+    let mut deadlines = [0u64; 32];
+    let mut step_counts = [0u64; 32];
+    let mut processors = [0u64; 128];
+    let mut priorities = [0u64; 128];
+    let mut times = [0u64; 128];
+    let found = read_lines(
+        file,
+        &mut periods,
+        &mut deadlines,
+        &mut step_counts,
+        &mut processors,
+        &mut priorities,
+        &mut times,
+    );
+    match found {
+        Found::Table(processor_count, tasks, rows) => {
+            lay(&periods, tasks as usize, period);
+            lay(&deadlines, tasks as usize, deadline);
+            lay(&step_counts, tasks as usize, steps);
+            lay(&processors, rows as usize, processor);
+            lay(&priorities, rows as usize, priority);
+            lay(&times, rows as usize, time);
+            Reading::Read(Counts {
+                processors: processor_count,
+                tasks,
+            })
+        }
+        Found::Refused(refusal) => Reading::Refused(refusal),
+    }
+}
+
+// Reads a file: its table's entries fill the front of the lists, and a refusal leaves them.
+pub fn read(
+    file: &[u8],
+    period: &mut [u64],
+    deadline: &mut [u64],
+    steps: &mut [u64],
+    processor: &mut [u64],
+    priority: &mut [u64],
+    time: &mut [u64],
+) -> Reading
+    ensures { λ r. ⌜ _≡_ {A = ReadOutcome} (record { answer = r; lists = listsOf (now (period .exit)) (now (deadline .exit)) (now (steps .exit)) (now (processor .exit)) (now (priority .exit)) (now (time .exit)) })
+        (read (now (file .entry)) (listsOf (now (period .entry)) (now (deadline .entry)) (now (steps .entry)) (now (processor .entry)) (now (priority .entry)) (now (time .entry)))) ⌝ }
+{
+    if !has_room(MOST_ROWS as usize, processor, priority, time) {
+        return Reading::Refused(Refusal::TooShort(MOST_ROWS));
+    }
+    if !has_room(MOST_TASKS as usize, period, deadline, steps) {
+        return Reading::Refused(Refusal::TooShort(MOST_TASKS));
+    }
+    if MOST_BYTES < file.len() {
+        return Reading::Refused(Refusal::FileTooLong);
+    }
+    read_table(file, period, deadline, steps, processor, priority, time)
 }

@@ -1,0 +1,25 @@
+use borrow.Author.Tests.{eq-eqb, ne-eqb}
+use Rattle.planfile.specs.Due.{ownNumber}
+use native.Mathlib.Omega.{arith}
+use borrow.Author.Needs.{needs}
+use Rattle.planfile.proofs.due.own_number.Statement.{statement}
+use Rattle.planfile.proofs.due.own_number.Tie as tie
+use Rattle.planfile.proofs.due.own_number.Reads as reads
+use Rattle.planfile.proofs.due.own_number.Lts as lts
+
+-- src/due.rt:38:16
+add-result : tie.Need-add-result
+add-result c = search needs
+
+-- src/due.rt:38:9
+returns : tie.Need-returns
+unfolding ownNumber
+returns c = simp (eq-eqb _ _ (c .before .if1 .taken))
+
+-- src/due.rt:33:1
+returns-2 : tie.Need-returns-2
+unfolding ownNumber
+returns-2 c = simp (ne-eqb _ _ (c .if1 .left))
+
+pub own-number-spec : {M : Type 1} → statement M
+own-number-spec = tie.close (tie.spec add-result returns returns-2)

@@ -1,0 +1,217 @@
+-- The shape of a draft: how long its lists are while each key is due, and that each line keeps the shape.
+use Prim.Native.Nat.{ℕ, zero, suc, _+_, _*_, _≤_, _<_}
+use mathlib.Core.Path.{_≡_, refl, sym, _∙_, ap}
+use mathlib.Core.Bool.{Bool, true, false, cond, _&&_}
+use mathlib.Core.List.{List, [], _∷_, _++_}
+use native.Mathlib.Omega.{arith}
+use native.Mathlib.Decide.{decLt}
+use native.Mathlib.Numerals.{add-one}
+use borrow.Author.Tests.{lt-ltb, le-ltb, ltb-false, leb-true, ne-eqb}
+use lib.Dec.{ltb, leb, eqb}
+use lib.ListN.{length, getD, length-append, List·getD-append, List·getD-eq-default}
+use lib.Seq.{getD-at}
+use Rattle.facts.specs.Sums.{sum}
+use Rattle.facts.specs.SumsLaws.{sum-more, sum-ext}
+use Rattle.facts.specs.TestsLaws.{and-left, and-right}
+use Rattle.table.specs.Keys.{planKey, processorsKey, tasksKey, taskKey, periodKey, deadlineKey, stepsKey, processorKey, priorityKey, timeKey}
+use Rattle.table.specs.Ranges.{inRange, rangeOf, ranges}
+use Rattle.table.specs.RangesLaws.{Within, within-of}
+use Rattle.table.specs.Table.{Table, at, mostRows}
+use Rattle.planfile.specs.Draft.{Draft, noKey, blank, rowsAsked, own, added, placed, following, advanced}
+use Rattle.planfile.specs.Reading.{tooMany}
+
+-- How much longer or shorter a list is while each key is due, by the key's number from `plan` to none.
+abbrev pub byKey : List ℕ → Draft → ℕ
+byKey l d = getD l (d .key) 0
+
+-- The lists that are filled before a task's `steps` line, or a row's `time` line, are ahead of these by one entry once it is there.
+pub record Shape (d : Draft) : Type 0 where
+  pub key-most : d .key ≤ noKey
+  pub period : length (d .table .period) ≡ length (d .table .steps) + byKey (0 ∷ 0 ∷ 0 ∷ 0 ∷ 0 ∷ 1 ∷ 1 ∷ 0 ∷ 0 ∷ 0 ∷ 0 ∷ []) d
+  pub deadline : length (d .table .deadline) ≡ length (d .table .steps) + byKey (0 ∷ 0 ∷ 0 ∷ 0 ∷ 0 ∷ 0 ∷ 1 ∷ 0 ∷ 0 ∷ 0 ∷ 0 ∷ []) d
+  pub processor : length (d .table .processor) ≡ length (d .table .time) + byKey (0 ∷ 0 ∷ 0 ∷ 0 ∷ 0 ∷ 0 ∷ 0 ∷ 0 ∷ 1 ∷ 1 ∷ 0 ∷ []) d
+  pub priority : length (d .table .priority) ≡ length (d .table .time) + byKey (0 ∷ 0 ∷ 0 ∷ 0 ∷ 0 ∷ 0 ∷ 0 ∷ 0 ∷ 0 ∷ 1 ∷ 0 ∷ []) d
+  -- The tasks: none before the first `task` line, fewer than the plan's while one is given, all behind the last line.
+  pub processors-most : d .table .processors ≤ 16
+  pub tasks-most : d .table .tasks ≤ 32
+  pub task-due : length (d .table .steps) + byKey (0 ∷ 0 ∷ 0 ∷ 1 ∷ 1 ∷ 1 ∷ 1 ∷ 0 ∷ 0 ∷ 0 ∷ 0 ∷ []) d ≤ d .table .tasks
+  pub task-most : length (d .table .steps) ≤ byKey (0 ∷ 0 ∷ 0 ∷ 31 ∷ 31 ∷ 31 ∷ 31 ∷ 32 ∷ 32 ∷ 32 ∷ 32 ∷ []) d
+  pub task-left : d .table .tasks ≤ length (d .table .steps) + byKey (32 ∷ 32 ∷ 32 ∷ 32 ∷ 32 ∷ 32 ∷ 32 ∷ 31 ∷ 31 ∷ 31 ∷ 0 ∷ []) d
+  -- The rows: fewer than are asked for while one is given, else as many; at most 128, and none before the first `task` line.
+  pub row-due : length (d .table .time) + byKey (0 ∷ 0 ∷ 0 ∷ 0 ∷ 0 ∷ 0 ∷ 0 ∷ 1 ∷ 1 ∷ 1 ∷ 0 ∷ []) d ≤ rowsAsked (d .table)
+  pub row-most : rowsAsked (d .table) ≤ mostRows
+  pub row-none : rowsAsked (d .table) ≤ byKey (0 ∷ 0 ∷ 0 ∷ 128 ∷ 128 ∷ 128 ∷ 128 ∷ 128 ∷ 128 ∷ 128 ∷ 128 ∷ []) d
+  pub row-left : rowsAsked (d .table) ≤ length (d .table .time) + byKey (0 ∷ 0 ∷ 0 ∷ 0 ∷ 0 ∷ 0 ∷ 0 ∷ 16 ∷ 16 ∷ 16 ∷ 0 ∷ []) d
+
+-- The value of the line due is right: in its range, and not too many rows.
+pub record Accepted (d : Draft) (v : ℕ) : Type 0 where
+  pub range : inRange (d .key) (own d) v ≡ true
+  pub rows : tooMany d v ≡ false
+
+pub shape-blank : Shape blank
+unfolding blank rowsAsked sum
+shape-blank = omega arith
+
+-- A `steps` line asks for so many rows more.
+pub asked-more : (l : List ℕ) (v : ℕ) → sum (length (l ++ (v ∷ []))) (at (l ++ (v ∷ []))) ≡ sum (length l) (at l) + v
+asked-more l v =
+    let e : length (l ++ (v ∷ [])) ≡ length l + 1 = length-append l (v ∷ []) in
+    rw e (sum-more (length l) (at (l ++ (v ∷ [])))
+    ∙ omega (
+      arith,
+      sum-ext (length l) {f = at (l ++ (v ∷ []))} {g = at l} (λ i h. List·getD-append l (v ∷ []) 0 i h),
+      getD-at l v [] 0 (length l) refl,
+    ))
+
+-- What is shown of each key by itself, and of every number past them.
+pub record EachKey (P : ℕ → Type 0) : Type 0 where
+  pub plan : P planKey
+  pub processors : P processorsKey
+  pub tasks : P tasksKey
+  pub task : P taskKey
+  pub period : P periodKey
+  pub deadline : P deadlineKey
+  pub steps : P stepsKey
+  pub processor : P processorKey
+  pub priority : P priorityKey
+  pub time : P timeKey
+  pub none : (key : ℕ) → noKey ≤ key → P key
+
+-- It holds of each number.
+pub by-key : {P : ℕ → Type 0} → EachKey P → (key : ℕ) → P key
+by-key e zero = e .plan
+by-key e (suc zero) = e .processors
+by-key e (suc (suc zero)) = e .tasks
+by-key e (suc (suc (suc zero))) = e .task
+by-key e (suc (suc (suc (suc zero)))) = e .period
+by-key e (suc (suc (suc (suc (suc zero))))) = e .deadline
+by-key e (suc (suc (suc (suc (suc (suc zero)))))) = e .steps
+by-key e (suc (suc (suc (suc (suc (suc (suc zero))))))) = e .processor
+by-key e (suc (suc (suc (suc (suc (suc (suc (suc zero)))))))) = e .priority
+by-key e (suc (suc (suc (suc (suc (suc (suc (suc (suc zero))))))))) = e .time
+by-key e (suc (suc (suc (suc (suc (suc (suc (suc (suc (suc more)))))))))) = e .none _ (omega arith)
+
+past-ranges : (key : ℕ) → noKey ≤ key → getD ranges key (record { least = 1; most = 0 }) ≡ record { least = 1; most = 0 }
+unfolding ranges
+past-ranges key h = List·getD-eq-default ranges _ h
+
+-- A number that is no key's has no value in its range.
+pub none-in-range : (key n v : ℕ) → noKey ≤ key → inRange key n v ≡ true → ⊥
+unfolding inRange rangeOf
+none-in-range key n v h e =
+    let no-task : eqb key taskKey ≡ false = ne-eqb key taskKey (λ q. omega arith) in
+    let no-processor : eqb key processorKey ≡ false = ne-eqb key processorKey (λ q. omega arith) in
+    let empty = past-ranges key h in
+    let none : leb 1 v && leb v 0 ≡ true = simp (no-task, no-processor, empty) at e in
+    omega (arith, leb-true 1 v (and-left (leb 1 v) _ none), leb-true v 0 (and-right (leb 1 v) _ none))
+
+-- A value in its range is at most the greatest of all ranges and the plan's own number.
+value-keys : EachKey (λ key. (n v : ℕ) → inRange key n v ≡ true → v ≤ 160000000 + n)
+unfolding rangeOf ranges
+value-keys = record {
+  plan = λ n v e. omega (arith, within-of planKey n v e);
+  processors = λ n v e. omega (arith, within-of processorsKey n v e);
+  tasks = λ n v e. omega (arith, within-of tasksKey n v e);
+  task = λ n v e. omega (arith, within-of taskKey n v e);
+  period = λ n v e. omega (arith, within-of periodKey n v e);
+  deadline = λ n v e. omega (arith, within-of deadlineKey n v e);
+  steps = λ n v e. omega (arith, within-of stepsKey n v e);
+  processor = λ n v e. omega (arith, within-of processorKey n v e);
+  priority = λ n v e. omega (arith, within-of priorityKey n v e);
+  time = λ n v e. omega (arith, within-of timeKey n v e);
+  none = λ key h n v e. absurd (none-in-range key n v h e);
+}
+
+pub value-most : (key n v : ℕ) → inRange key n v ≡ true → v ≤ 160000000 + n
+value-most key n v e = by-key value-keys key n v e
+
+-- After a row's `time` line comes the task's next row, the next task, or nothing.
+after-row :
+    (T : Table) (v : ℕ) (P : ℕ → Type 0) → (length (T .time) + 1 < rowsAsked T → P processorKey)
+    → (rowsAsked T ≤ length (T .time) + 1 → length (T .steps) < T .tasks → P taskKey)
+    → (rowsAsked T ≤ length (T .time) + 1 → T .tasks ≤ length (T .steps) → P noKey)
+    → P (following timeKey (placed timeKey v T))
+unfolding following placed added rowsAsked
+after-row T v P row task none = go (decLt (length (T .time) + 1) (rowsAsked T)) (decLt (length (T .steps)) (T .tasks))
+  where
+    one-more : length (T .time ++ (v ∷ [])) ≡ length (T .time) + 1
+    one-more = length-append (T .time) (v ∷ [])
+
+    go : Dec (length (T .time) + 1 < rowsAsked T) → Dec (length (T .steps) < T .tasks) → P (following timeKey (placed timeKey v T))
+    go (yes r) t = rw (one-more, lt-ltb _ _ r) (row r)
+    go (no r) (yes t) =
+        let r′ : rowsAsked T ≤ length (T .time) + 1 = omega arith in
+        rw (one-more, le-ltb _ _ r′, lt-ltb _ _ t) (task r′ t)
+    go (no r) (no t) =
+        let r′ : rowsAsked T ≤ length (T .time) + 1 = omega arith in
+        let t′ : T .tasks ≤ length (T .steps) = omega arith in
+        rw (one-more, le-ltb _ _ r′, le-ltb _ _ t′) (none r′ t′)
+
+-- The line of the key due keeps the shape.
+abbrev Keeps : ℕ → Type 0
+Keeps key =
+    (T : Table) (v : ℕ) → Shape (record { key = key; table = T }) → Accepted (record { key = key; table = T }) v
+    → Shape (advanced (record { key = key; table = T }) v)
+
+keeps-time : Keeps timeKey
+unfolding advanced placed added rowsAsked
+keeps-time T v s a =
+    let one-more = length-append (T .time) (v ∷ []) in
+    after-row T v (λ key. Shape (record { key = key; table = placed timeKey v T }))
+    (λ r. omega (arith, one-more)) (λ r t. omega (arith, one-more)) (λ r t. omega (arith, one-more))
+
+keeps : EachKey Keeps
+unfolding advanced placed added following rangeOf ranges rowsAsked own tooMany
+keeps = record {
+  plan = λ T v s a. omega arith;
+  processors = λ T v s a. omega (arith, within-of processorsKey (T .processors) v (a .range));
+  tasks = λ T v s a. omega (arith, within-of tasksKey (T .processors) v (a .range));
+  task = λ T v s a. omega arith;
+  period = λ T v s a. omega (arith, length-append (T .period) (v ∷ []));
+  deadline = λ T v s a. omega (arith, length-append (T .deadline) (v ∷ []));
+  steps = λ T v s a. omega (arith, length-append (T .steps) (v ∷ []), asked-more (T .steps) v, ltb-false mostRows (rowsAsked T + v) (a .rows), within-of stepsKey (T .processors) v (a .range));
+  processor = λ T v s a. omega (arith, length-append (T .processor) (v ∷ []));
+  priority = λ T v s a. omega (arith, length-append (T .priority) (v ∷ []));
+  time = keeps-time;
+  none = λ key h T v s a. absurd (none-in-range key _ v h (a .range));
+}
+
+pub shape-next : (d : Draft) (v : ℕ) → Shape d → Accepted d v → Shape (advanced d v)
+shape-next d v s a = by-key keeps (d .key) (d .table) v s a
+
+-- The lines that a draft has: three first, four for each task and three for each row, and those of the task or row that is given.
+unfoldable pub linesSoFar : Draft → ℕ
+linesSoFar d =
+    byKey (0 ∷ 1 ∷ 2 ∷ 3 ∷ 4 ∷ 5 ∷ 6 ∷ 3 ∷ 4 ∷ 5 ∷ 3 ∷ []) d + 4 * length (d .table .steps) + 3 * length (d .table .time)
+
+abbrev Counts : ℕ → Type 0
+Counts key =
+    (T : Table) (v : ℕ) → key < noKey
+    → linesSoFar (advanced (record { key = key; table = T }) v) ≡ suc (linesSoFar (record { key = key; table = T }))
+
+counts-time : Counts timeKey
+unfolding linesSoFar advanced placed added
+counts-time T v h =
+    let one-more = length-append (T .time) (v ∷ []) in
+    after-row T v (λ key. linesSoFar (record { key = key; table = placed timeKey v T }) ≡ suc (linesSoFar (record { key = timeKey; table = T })))
+    (λ r. omega (arith, one-more)) (λ r t. omega (arith, one-more)) (λ r t. omega (arith, one-more))
+
+-- Each line counts.
+counts : EachKey Counts
+unfolding linesSoFar advanced placed added following
+counts = record {
+  plan = λ T v h. omega arith;
+  processors = λ T v h. omega arith;
+  tasks = λ T v h. omega arith;
+  task = λ T v h. omega arith;
+  period = λ T v h. omega arith;
+  deadline = λ T v h. omega arith;
+  steps = λ T v h. omega (arith, length-append (T .steps) (v ∷ []));
+  processor = λ T v h. omega arith;
+  priority = λ T v h. omega arith;
+  time = counts-time;
+  none = λ key h T v l. absurd (omega arith);
+}
+
+pub lines-next : (d : Draft) (v : ℕ) → d .key < noKey → linesSoFar (advanced d v) ≡ suc (linesSoFar d)
+lines-next d v h = by-key counts (d .key) (d .table) v h
