@@ -4,8 +4,9 @@ use Prim.Native.Nat.{ℕ, zero, suc, _+_, _*_, _-_, _≤_, _<_}
 use native.Mathlib.Omega.{arith}
 use native.Mathlib.Numerals.{add-one}
 use native.Mathlib.Decide.{ℕ-discrete, decLt}
-use mathlib.Core.Bool.{Bool, true, false, cond}
-use lib.Dec.{T}
+use mathlib.Core.Bool.{Bool, true, false, cond, not, _&&_}
+use lib.Dec.{T, eqb}
+use borrow.Author.Tests.{eq-eqb, ne-eqb}
 use Rattle.facts.specs.Sums.{sum, sumIf}
 
 pub sum-none : (f : ℕ → ℕ) → sum 0 f ≡ 0
@@ -134,3 +135,47 @@ sumIf-add n b f g =
 pub sumIf-bound : (n : ℕ) (b : ℕ → Bool) (f : ℕ → ℕ) (m : ℕ) → ((i : ℕ) → i < n → f i ≤ m) → sumIf n b f ≤ n * m
 unfolding sumIf
 sumIf-bound n b f m h = sum-bound n (λ i. cond (b i) (f i) 0) m (λ i l. cond-bound (b i) (h i l))
+
+-- The same tests and terms sum to the same.
+pub sumIf-ext :
+    {m n : ℕ} → m ≡ n → {b c : ℕ → Bool} {f g : ℕ → ℕ}
+    → ((i : ℕ) → i < m → b i ≡ c i) → ((i : ℕ) → i < m → f i ≡ g i) → sumIf m b f ≡ sumIf n c g
+unfolding sumIf
+sumIf-ext {m} e {b} {c} {f} {g} t h =
+    rw (← e)
+    (sum-ext m {f = λ i. cond (b i) (f i) 0} {g = λ i. cond (c i) (g i) 0} (λ i l. rw (t i l, h i l)))
+
+-- One term taken out of a sum.
+pub sumIf-without :
+    (n : ℕ) (b : ℕ → Bool) (f : ℕ → ℕ) (r : ℕ) → r < n → b r ≡ true
+    → sumIf n b f ≡ sumIf n (λ k. b k && not (eqb k r)) f + f r
+sumIf-without zero b f r l t = absurd (omega arith)
+sumIf-without (suc n) b f r l t = go (ℕ-discrete r n) (λ h. sumIf-without n b f r h t)
+  where
+    but : ℕ → Bool
+    but k = b k && not (eqb k r)
+
+    here : (x : Bool) → x && true ≡ x
+    here true = refl
+    here false = refl
+
+    none : (x : Bool) → x && false ≡ false
+    none true = refl
+    none false = refl
+
+    other : (k : ℕ) → (k ≡ r → ⊥) → but k ≡ b k
+    other k ne = rw (ne-eqb k r ne) (here (b k))
+
+    own : r ≡ n → but n ≡ false
+    own e = rw (eq-eqb n r (sym e)) (none (b n))
+
+    go : Dec (r ≡ n) → (r < n → sumIf n b f ≡ sumIf n but f + f r) → sumIf (suc n) b f ≡ sumIf (suc n) but f + f r
+    go (yes e) ih =
+        let same : sumIf n b f ≡ sumIf n but f = sumIf-ext refl (λ i h. sym (other i (λ q. omega arith))) (λ i h. refl) in
+        let there : b n ≡ true = rw e at t in
+        let first : sumIf (suc n) b f ≡ sumIf n b f + f n = sumIf-suc n b f ∙ rw there in
+        let second : sumIf (suc n) but f ≡ sumIf n but f + 0 = sumIf-suc n but f ∙ rw (own e) in
+        omega (arith, same, first, second, ap f e)
+    go (no ne) ih =
+        let second : sumIf (suc n) but f ≡ sumIf n but f + cond (b n) (f n) 0 = sumIf-suc n but f ∙ rw (other n (λ q. ne (sym q))) in
+        omega (arith, sumIf-suc n b f, second, ih (omega arith))

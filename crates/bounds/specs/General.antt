@@ -1,0 +1,53 @@
+-- Laws that know no plan.
+use mathlib.Core.Path.{_≡_, refl, ap, sym, _∙_}
+use mathlib.Core.Bool.{Bool, true, false, cond, not, _&&_}
+use Prim.Native.Nat.{ℕ, zero, suc, _+_, _*_, _-_, _/_, _≤_, _<_}
+use native.Mathlib.Nat.{mul-le-mul-right, mul-le-mul-left}
+use native.Mathlib.Omega.{arith, both-ways}
+use native.Mathlib.Decide.{decLe}
+use Rattle.facts.specs.Tests.{all}
+use Rattle.facts.specs.Rounding.{ceil}
+use Rattle.facts.specs.RoundingLaws.{ceil-le, le-ceil, ceil-tight, ceil-count}
+use Rattle.facts.specs.LeastLaws.{Below}
+
+-- The same test at each number below n is the same whole.
+pub all-ext : (n : ℕ) {f g : ℕ → Bool} → ((k : ℕ) → k < n → f k ≡ g k) → all n f ≡ all n g
+unfolding all
+all-ext zero h = refl
+all-ext (suc n) {f} {g} h =
+    let a : all n f ≡ all n g = all-ext n (λ k l. h k (omega arith)) in
+    let b : f n ≡ g n = h n (omega arith) in
+    rw (a, b)
+
+-- What a larger function's search has passed, a smaller one's has.
+pub below-more : {f g : ℕ → ℕ} {t : ℕ} → ((u : ℕ) → f u ≤ g u) → Below f t → Below g t
+below-more l b u p h = b u p (omega (arith, l u))
+
+-- Nothing takes no periods, and what is within one takes one.
+pub ceil-zero : {p : ℕ} → 0 < p → ceil 0 p ≡ 0
+ceil-zero {p} pp = omega (arith, ceil-le {x = 0} {p = p} {j = 0} pp (omega arith))
+
+pub ceil-one : {x p : ℕ} → 0 < x → x ≤ p → ceil x p ≡ 1
+ceil-one {x} {p} h l =
+    both-ways (ceil x p) 1 (ceil-le {x = x} {p = p} {j = 1} (omega arith) (omega arith)) (ceil-count {x = x} {p = p} {k = 0} (omega arith) (omega arith))
+
+-- Periods counted on from where s left off.
+pub ceil-on : {s t p : ℕ} → 0 < p → s ≤ t → ceil t p ≡ ceil s p + ceil (t - ceil s p * p) p
+ceil-on {s} {t} {p} pp l = go (decLe t (ceil s p * p))
+  where
+    go : Dec (t ≤ ceil s p * p) → ceil t p ≡ ceil s p + ceil (t - ceil s p * p) p
+    go (yes h) =
+        let z : t - ceil s p * p ≡ 0 = omega arith in
+        let up : ceil t p ≤ ceil s p = ceil-le pp h in
+        let down : ceil s p ≤ ceil t p = ceil-le pp (omega (arith, le-ceil t pp)) in
+        rw (z, ceil-zero pp) (omega arith)
+    go (no h) =
+        both-ways (ceil t p) (ceil s p + ceil (t - ceil s p * p) p)
+        (ceil-le pp (omega (arith, le-ceil (t - ceil s p * p) pp)))
+        (omega (arith, ceil-le {x = t - ceil s p * p} {p = p} {j = ceil t p - ceil s p} pp (omega (arith, le-ceil t pp, gap)), more))
+      where
+        more : ceil s p ≤ ceil t p
+        more = ceil-le pp (omega (arith, le-ceil t pp))
+
+        gap : (ceil t p - ceil s p) * p + ceil s p * p ≡ ceil t p * p
+        gap = sym (native.Mathlib.Nat.add-mul (ceil t p - ceil s p) (ceil s p) p) ∙ ap (λ (k : ℕ). k * p) (omega (arith, more))

@@ -1,0 +1,52 @@
+-- A plan's rows in the lists that the calls read.
+use Prim.Native.Nat.{ℕ, _+_, _≤_, _<_}
+use mathlib.Core.Path.{_≡_}
+use mathlib.Core.Bool.{Bool, true, false, cond, not, _&&_, _||_}
+use mathlib.Core.List.{List}
+use lib.Dec.{leb, ltb, eqb}
+use lib.ListN.{length, getD}
+use Rattle.facts.specs.Filled.{tab, filled}
+use Rattle.table.specs.Table.{Table, at, rows, isPlan}
+use Rattle.table.specs.Plan.{Plan, planOf}
+use Rattle.table.specs.declared.plan.View.{View}
+use Rattle.table.specs.declared.plan.View.the-variants as view
+use Rattle.guards.specs.declared.rows.Rows.{Rows}
+
+-- How many rows the view of a table has: none where it is refused.
+abbrev pub countOf : View → ℕ
+countOf (view.Rows count) = count
+countOf (view.Refused refusal) = 0
+
+-- The rows of a table in lists of 128, whose entries past the rows are 0 and no; a table that is no plan has none.
+unfoldable pub rowsOf : Table → Rows
+rowsOf T =
+    cond (isPlan T)
+    (record {
+      count = rows T;
+      period = filled (planOf T .period) (rows T) (tab (λ r. 0) 128);
+      first = filled (planOf T .first) (rows T) (tab (λ r. false) 128);
+    })
+    (record { count = 0; period = tab (λ r. 0) 128; first = tab (λ r. false) 128 })
+
+-- The plan of so many rows that these lists hold; a list that is not asked for may be empty.
+abbrev pub planFrom : ℕ → List ℕ → List Bool → List ℕ → List ℕ → List ℕ → Plan
+planFrom count period first processor priority time = record {
+  rows = count;
+  period = at period;
+  cost = at time;
+  processor = at processor;
+  priority = at priority;
+  first = λ r. getD first r false;
+}
+
+-- What fitting asks of a row's instances and used ticks.
+unfoldable pub countsFit : ℕ → ℕ → ℕ → ℕ → ℕ → Bool
+countsFit clock released completed used time =
+    leb completed released && (leb released (clock + 1) && (ltb used time && (ltb completed released || eqb used 0)))
+
+-- What fitting asks of a row's guard and releases: by whether it is first, and what the row before it has completed.
+unfoldable pub chainFits : Bool → ℕ → ℕ → ℕ → ℕ → ℕ → Bool
+chainFits first clock period released guard before =
+    leb guard (clock + period)
+    && cond first (not (eqb released (clock + 1)) || ltb clock guard)
+    (leb released before && (not (ltb released before) || ltb clock guard))
