@@ -1,13 +1,12 @@
 -- The shape of a draft: how long its lists are while each key is due, and that each line keeps the shape.
 use Prim.Native.Nat.{ℕ, zero, suc, _+_, _*_, _≤_, _<_}
-use mathlib.Core.Path.{_≡_, refl, sym, _∙_, ap}
+use mathlib.Core.Path.{_≡_, refl, _∙_}
 use mathlib.Core.Bool.{Bool, true, false, cond, _&&_}
 use mathlib.Core.List.{List, [], _∷_, _++_}
 use native.Mathlib.Omega.{arith}
 use native.Mathlib.Decide.{decLt}
-use native.Mathlib.Numerals.{add-one}
 use borrow.Author.Tests.{lt-ltb, le-ltb, ltb-false, leb-true, ne-eqb}
-use lib.Dec.{ltb, leb, eqb}
+use lib.Dec.{leb, eqb}
 use lib.ListN.{length, getD, length-append, List·getD-append, List·getD-eq-default}
 use lib.Seq.{getD-at}
 use Rattle.facts.specs.Sums.{sum}
@@ -15,7 +14,7 @@ use Rattle.facts.specs.SumsLaws.{sum-more, sum-ext}
 use Rattle.facts.specs.TestsLaws.{and-left, and-right}
 use Rattle.table.specs.Keys.{planKey, processorsKey, tasksKey, taskKey, periodKey, deadlineKey, stepsKey, processorKey, priorityKey, timeKey}
 use Rattle.table.specs.Ranges.{inRange, rangeOf, ranges}
-use Rattle.table.specs.RangesLaws.{Within, within-of}
+use Rattle.table.specs.RangesLaws.{within-of}
 use Rattle.table.specs.Table.{Table, at, mostRows}
 use Rattle.planfile.specs.Draft.{Draft, noKey, blank, rowsAsked, own, added, placed, following, advanced}
 use Rattle.planfile.specs.Reading.{tooMany}
@@ -42,6 +41,10 @@ pub record Shape (d : Draft) : Type 0 where
   pub row-most : rowsAsked (d .table) ≤ mostRows
   pub row-none : rowsAsked (d .table) ≤ byKey (0 ∷ 0 ∷ 0 ∷ 128 ∷ 128 ∷ 128 ∷ 128 ∷ 128 ∷ 128 ∷ 128 ∷ 128 ∷ []) d
   pub row-left : rowsAsked (d .table) ≤ length (d .table .time) + byKey (0 ∷ 0 ∷ 0 ∷ 0 ∷ 0 ∷ 0 ∷ 0 ∷ 16 ∷ 16 ∷ 16 ∷ 0 ∷ []) d
+
+-- The shape while a key of this number is due.
+pub at-key : (d : Draft) {key : ℕ} → d .key ≡ key → Shape d → Shape (record { key = key; table = d .table })
+at-key d e s = rw e at s
 
 -- The value of the line due is right: in its range, and not too many rows.
 pub record Accepted (d : Draft) (v : ℕ) : Type 0 where
@@ -91,6 +94,15 @@ by-key e (suc (suc (suc (suc (suc (suc (suc (suc zero)))))))) = e .priority
 by-key e (suc (suc (suc (suc (suc (suc (suc (suc (suc zero))))))))) = e .time
 by-key e (suc (suc (suc (suc (suc (suc (suc (suc (suc (suc more)))))))))) = e .none _ (omega arith)
 
+-- A number that is none of the keys below k is k or more.
+abbrev pub NoneBelow : ℕ → ℕ → Type 0
+NoneBelow zero key = Unit
+NoneBelow (suc k) key = NoneBelow k key × (key ≡ k → ⊥)
+
+pub none-below : (k key : ℕ) → NoneBelow k key → k ≤ key
+none-below zero key n = omega arith
+none-below (suc k) key n = omega (arith, none-below k key (n .0), n .1)
+
 past-ranges : (key : ℕ) → noKey ≤ key → getD ranges key (record { least = 1; most = 0 }) ≡ record { least = 1; most = 0 }
 unfolding ranges
 past-ranges key h = List·getD-eq-default ranges _ h
@@ -125,8 +137,18 @@ value-keys = record {
 pub value-most : (key n v : ℕ) → inRange key n v ≡ true → v ≤ 160000000 + n
 value-most key n v e = by-key value-keys key n v e
 
+-- The plan's own number is small.
+pub own-few : (b : Bool) (n m : ℕ) → n ≤ 32 → m ≤ 16 → cond b (n + 1) m ≤ 33
+own-few true n m h g = omega arith
+own-few false n m h g = omega arith
+
+pub own-most : (d : Draft) → Shape d → own d ≤ 33
+unfolding own
+own-most d s =
+    own-few (eqb (d .key) taskKey) (length (d .table .steps)) (d .table .processors) (omega (arith, s .task-due, s .tasks-most)) (s .processors-most)
+
 -- After a row's `time` line comes the task's next row, the next task, or nothing.
-after-row :
+pub after-row :
     (T : Table) (v : ℕ) (P : ℕ → Type 0) → (length (T .time) + 1 < rowsAsked T → P processorKey)
     → (rowsAsked T ≤ length (T .time) + 1 → length (T .steps) < T .tasks → P taskKey)
     → (rowsAsked T ≤ length (T .time) + 1 → T .tasks ≤ length (T .steps) → P noKey)

@@ -1,18 +1,18 @@
 -- What is due follows the draft.
-use Prim.Native.Nat.{ℕ, suc, _+_, _≤_}
-use mathlib.Core.Path.{_≡_, refl, sym, _∙_, ap}
+use Prim.Native.Nat.{ℕ, _+_, _≤_}
+use mathlib.Core.Path.{_≡_, refl}
 use mathlib.Core.Bool.{Bool, true, false, cond}
-use mathlib.Core.List.{List, [], _∷_, _++_}
+use mathlib.Core.List.{List, [], _∷_}
 use native.Mathlib.Omega.{arith}
-use lib.Dec.{ltb, eqb}
+use lib.Dec.{eqb}
 use lib.ListN.{length, length-append}
 use Rattle.facts.specs.Sums.{sum}
 use Rattle.table.specs.Keys.{taskKey, stepsKey, timeKey}
 use Rattle.table.specs.Ranges.{inRange}
-use Rattle.table.specs.Table.{Table, at}
+use Rattle.table.specs.Table.{at}
 use Rattle.planfile.specs.declared.due.Due.{Due}
 use Rattle.planfile.specs.Draft.{Draft, blank, rowsAsked, own, added, placed, following, advanced}
-use Rattle.planfile.specs.DraftLaws.{Shape, asked-more, value-most}
+use Rattle.planfile.specs.DraftLaws.{Shape, asked-more, value-most, own-few}
 use Rattle.planfile.specs.Due.{dueOf, begun, ownNumber, counted, nextKey, keyed, past}
 
 pub due-blank : begun ≡ dueOf blank
@@ -67,11 +67,7 @@ due-few d s = record {
   asked = s .row-most;
 }
 
--- So is the plan's own number, and the value of the key due.
-own-few : (b : Bool) (n m : ℕ) → n ≤ 32 → m ≤ 16 → cond b (n + 1) m ≤ 33
-own-few true n m h g = omega arith
-own-few false n m h g = omega arith
-
+-- So is the value of the key due.
 pub value-few : (u : Due) (v : ℕ) → Few u → inRange (u .key) (ownNumber u) v ≡ true → v ≤ 1000000000
 unfolding ownNumber
 value-few u v f e =

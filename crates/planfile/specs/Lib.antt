@@ -27,3 +27,7 @@ pub mod Due
 pub mod DueLaws
 pub mod Reader
 pub mod ReaderLaws
+pub mod OwnDraftLaws
+pub mod Writer
+pub mod WriterLaws
+pub mod CallsLaws

@@ -1,15 +1,15 @@
 -- Laws of a line, byte by byte.
 use Prim.Native.Nat.{ℕ, zero, suc, _+_, _*_, _-_, _^_, _≤_, _<_}
 use mathlib.Core.Path.{_≡_, refl, sym, _∙_, ap}
-use mathlib.Core.Bool.{Bool, true, false, cond, _&&_}
+use mathlib.Core.Bool.{Bool, true, false, cond}
 use mathlib.Core.List.{List, [], _∷_, _++_}
 use native.Mathlib.Omega.{arith, by-contra}
 use native.Mathlib.Nat.{pow-suc, pow-le-pow-right}
 use native.Mathlib.Numerals.{add-one}
-use borrow.Author.Tests.{le-leb, lt-leb, leb-true, eq-eqb, ne-eqb, eqb-true, eqb-false}
+use borrow.Author.Tests.{le-leb, lt-leb, eq-eqb, ne-eqb, eqb-true}
 use lib.Dec.{leb, eqb}
 use lib.ListN.{length, getD, take, length-append, List·getD-eq-default}
-use Rattle.facts.specs.TestsLaws.{and-true, and-false, and-left, and-right, all-fails, clash}
+use Rattle.facts.specs.TestsLaws.{and-true, and-false, all-fails}
 use Rattle.text.specs.Text.{Written, appended}
 use Rattle.text.specs.TextLaws.{Holds, holds-none, holds-more}
 use Rattle.planfile.specs.declared.line.Line.{Line}
@@ -194,6 +194,13 @@ word-most = record {
   none = λ key h. rw (no-word key h) (omega arith);
 }
 
+-- The word, appended to an empty list of ten places or more, is there whole.
+pub word-holds : (key : ℕ) (l : List ℕ) {w : Written} → 10 ≤ length l → w ≡ appended (word key) l 0 → Holds (word key) (length l) w
+word-holds key l size e = holds-more (word key) (holds-none l) e (omega (arith, by-key word-most key))
+
+pub holds-length : {text : List ℕ} {room : ℕ} {w : Written} → Holds text room w → length (take (w .end) (w .list)) ≡ w .end
+holds-length h = ap length (h .front) ∙ sym (h .end)
+
 -- A list of 11 places has the key's word and '=' at its front.
 pub record Beginning (key : ℕ) (w : Written) : Type 0 where
   pub front : take (w .end) (w .list) ≡ word key ++ (61 ∷ [])
@@ -207,12 +214,12 @@ pub head-holds :
     → w ≡ appended (61 ∷ []) (v .list) (v .end) → Beginning key w
 head-holds key l size e f =
     let few = by-key word-most key in
-    let h = holds-more (61 ∷ []) (holds-more (word key) (rw size at (holds-none l)) e (omega arith)) f (omega arith) in
+    let h = holds-more (61 ∷ []) (word-holds key l (omega arith) e) f (omega arith) in
     record {
       front = h .front;
       end = h .end ∙ length-append (word key) (61 ∷ []);
       end-most = omega (arith, h .end, length-append (word key) (61 ∷ []));
-      length-front = ap length (h .front) ∙ sym (h .end);
+      length-front = holds-length h;
     }
 
 -- The line of the key by these bytes.

@@ -7,7 +7,6 @@ use lib.ListN.{set, take}
 use Rattle.table.specs.Keys.{periodKey, deadlineKey, stepsKey, processorKey, priorityKey, timeKey}
 use Rattle.table.specs.Ranges.{inRange}
 use Rattle.table.specs.Table.{tableOf, mostRows}
-use Rattle.table.specs.declared.refusal.Refusal.{Refusal}
 use Rattle.table.specs.declared.refusal.Refusal.the-variants.{NotTheLineDue, OutOfRange, TooManyRows}
 use Rattle.planfile.specs.declared.due.Due.{Due}
 use Rattle.planfile.specs.declared.line.Line.{Line}

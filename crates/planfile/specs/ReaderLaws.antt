@@ -1,16 +1,16 @@
 -- Laws of the steps of reading a file.
-use Prim.Native.Nat.{ℕ, zero, suc, _+_, _-_, _≤_, _<_}
+use Prim.Native.Nat.{ℕ, suc, _+_, _-_, _≤_, _<_}
 use mathlib.Core.Path.{_≡_, refl, sym, _∙_, ap}
-use mathlib.Core.Bool.{Bool, true, false, cond, not, _&&_}
+use mathlib.Core.Bool.{Bool, true, false, cond, not}
 use mathlib.Core.List.{List, [], _∷_, _++_}
 use native.Mathlib.Omega.{arith}
 use native.Mathlib.Numerals.{add-one}
 use borrow.Author.Tests.{eq-eqb, ne-eqb, eqb-true}
-use lib.Dec.{ltb, eqb}
-use lib.ListN.{length, getD, set, take, length-append, length-set}
+use lib.Dec.{eqb}
+use lib.ListN.{length, take, length-append, length-set}
 use lib.Seq.{take-suc-set}
 use Rattle.facts.specs.Filled.{laid}
-use Rattle.table.specs.Keys.{planKey, processorsKey, tasksKey, taskKey, periodKey, deadlineKey, stepsKey, processorKey, priorityKey, timeKey}
+use Rattle.table.specs.Keys.{periodKey, deadlineKey, stepsKey, processorKey, priorityKey, timeKey}
 use Rattle.table.specs.Ranges.{inRange}
 use Rattle.table.specs.Table.{Table, tableOf}
 use Rattle.table.specs.TableLaws.{Long}
@@ -24,12 +24,12 @@ use Rattle.planfile.specs.declared.read.Judged.the-variants.{Right, Wron
 use Rattle.planfile.specs.declared.read.Found.{Found}
 use Rattle.planfile.specs.declared.read.Found.the-variants as found
 use Rattle.planfile.specs.declared.read.Reading.the-variants.{Read, Refused}
-use Rattle.planfile.specs.Draft.{Draft, noKey, blank, rowsAsked, own, added, placed, advanced}
-use Rattle.planfile.specs.DraftLaws.{Shape, Accepted, EachKey, by-key, shape-blank, shape-next}
+use Rattle.planfile.specs.Draft.{Draft, noKey, blank, own, added, placed, advanced}
+use Rattle.planfile.specs.DraftLaws.{Shape, Accepted, at-key, shape-blank, shape-next}
 use Rattle.planfile.specs.Due.{dueOf, begun, ownNumber, past}
-use Rattle.planfile.specs.DueLaws.{Few, due-blank, due-own, due-advanced, due-few, value-few}
+use Rattle.planfile.specs.DueLaws.{Few, due-blank, due-advanced, due-few, value-few}
 use Rattle.planfile.specs.Line.{lineAt}
-use Rattle.planfile.specs.LineLaws.{Behind, line-behind}
+use Rattle.planfile.specs.LineLaws.{line-behind}
 use Rattle.planfile.specs.Reading.{Held, table, refusal, Lists, ReadOutcome, tooMany, judged, heldFrom, held, laidOver, readOf}
 use Rattle.planfile.specs.Reader.{asksTooMany, judgement, listsOf, storedIf, stored, foundIn}
 
@@ -139,10 +139,6 @@ pub record Slots (u : Due) (l : Lists) : Type 0 where
   pub processor : u .key ≡ processorKey → u .row < length (l .processor)
   pub priority : u .key ≡ priorityKey → u .row < length (l .priority)
   pub time : u .key ≡ timeKey → u .row < length (l .time)
-
--- The shape while a key of this number is due.
-at-key : (d : Draft) {key : ℕ} → d .key ≡ key → Shape d → Shape (record { key = key; table = d .table })
-at-key d e s = rw e at s
 
 slots : (d : Draft) (l : Lists) → Shape d → Sized l → Slots (dueOf d) l
 unfolding dueOf

@@ -1,15 +1,12 @@
-use Prim.Native.Nat.{ℕ, _≤_}
+-- `planfile::due::advance` meets its contract: what is due follows the value of each key, and then the key.
+use Prim.Native.Nat.{ℕ}
 use mathlib.Core.Path.{_≡_, refl, sym, _∙_, ap}
 use mathlib.Core.Logic.{⊎-elim}
 use borrow.Author.Tests.{ne-eqb}
 use Rattle.planfile.specs.Due.{counted, keyed, past}
-use native.Mathlib.Omega.{arith}
 use borrow.Author.Needs.{needs}
 use Rattle.planfile.proofs.due.advance.Statement.{statement}
 use Rattle.planfile.proofs.due.advance.Tie as tie
-use Rattle.planfile.proofs.due.advance.Reads as reads
-use Rattle.planfile.proofs.due.advance.Lts as lts
-use Rattle.planfile.proofs.due.next_key.Reads as next-key-reads
 
 -- The counts where the arms meet.
 counts : (c : tie.At-match-came) → c .match .next ≡ counted (c .before .args .due .key) (c .before .args .due) (c .before .args .value)
@@ -23,24 +20,19 @@ counts c =
     (⊎-elim (λ w. w .2 ∙ sym (ap (λ (key : ℕ). counted key u v) (w .0 .keys4)))
     (λ w. w .1 ∙ simp (ne-eqb _ _ (w .0 .rest .1), ne-eqb _ _ (w .0 .rest .0 .1), ne-eqb _ _ (w .0 .rest .0 .0 .1), ne-eqb _ _ (w .0 .rest .0 .0 .0 .1)))))) (c .match .came)
 
--- src/due.rt:59:25
 add-next : tie.Need-add-next
 add-next c = search needs
 
--- src/due.rt:60:26
 add-next-2 : tie.Need-add-next-2
 add-next-2 c = search needs
 
--- src/due.rt:63:24
 add-next-3 : tie.Need-add-next-3
 add-next-3 c = search needs
 
--- src/due.rt:67:9
 next-key-requires : tie.Need-next-key-requires
 unfolding counted
 next-key-requires c κs = rw (counts c) (c .before .pre .0 .key)
 
--- src/due.rt:45:1
 returns : tie.Need-returns
 unfolding past keyed
 returns c = rw (← counts (c .before)) (ap (λ (k : ℕ). record { key = k; processors = c .before .match .next .processors; tasks = c .before .match .next .tasks; task = c .before .match .next .task; row = c .before .match .next .row; asked = c .before .match .next .asked }) (c .next-key .ensures))

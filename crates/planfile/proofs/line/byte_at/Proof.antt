@@ -1,21 +1,16 @@
+-- `planfile::line::byte_at` meets its contract: what is past the file's end reads as 0.
 use mathlib.Core.Path.{sym}
 use lib.ListN.{List·getD-eq-default}
-use native.Mathlib.Omega.{arith}
 use borrow.Author.Needs.{needs}
 use Rattle.planfile.proofs.line.byte_at.Statement.{statement}
 use Rattle.planfile.proofs.line.byte_at.Tie as tie
-use Rattle.planfile.proofs.line.byte_at.Reads as reads
-use Rattle.planfile.proofs.line.byte_at.Lts as lts
 
--- src/line.rt:69:9
 returns : tie.Need-returns
 returns c = sym (List·getD-eq-default (c .before .args .file .now) 0 (c .if1 .taken))
 
--- src/line.rt:71:5
 shared-slice-read-result : tie.Need-shared-slice-read-result
 shared-slice-read-result c = search needs
 
--- src/line.rt:65:1
 returns-2 : tie.Need-returns-2
 returns-2 c = search needs
 

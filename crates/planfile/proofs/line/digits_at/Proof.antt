@@ -1,15 +1,13 @@
+-- `planfile::line::digits_at` meets its contract: from each place on, the rest of the value is the whole value.
 use Prim.Native.Nat.{ℕ, _≤_, _<_, _+_, _*_, _-_, _^_}
 use mathlib.Core.Path.{_≡_, refl, sym, _∙_, ap}
-use lib.ListN.{length, getD}
+use lib.ListN.{length}
 use Rattle.planfile.specs.Line.{digitsFrom}
 use Rattle.planfile.specs.LineLaws.{digit-low, digit-high, digits-lf, digits-more, digits-full, digits-other, digits-end, worth-first, worth-more, worth-most}
 use native.Mathlib.Omega.{arith}
 use borrow.Author.Needs.{needs}
 use Rattle.planfile.proofs.line.digits_at.Statement.{statement}
 use Rattle.planfile.proofs.line.digits_at.Tie as tie
-use Rattle.planfile.proofs.line.digits_at.Reads as reads
-use Rattle.planfile.proofs.line.digits_at.Lts as lts
-use Rattle.planfile.proofs.line.digit.Reads as digit-reads
 
 abbrev Inv-loop : tie.InvT-loop
 Inv-loop most file place begun left₀ at₀ value₀ left at value = (left ≤ 8) × (value < 10 ^ (9 - left)) × (digitsFrom most file place begun ≡ digitsFrom left file at value)
@@ -17,26 +15,21 @@ Inv-loop most file place begun left₀ at₀ value₀ left at value = (left ≤ 
 abbrev μ-loop : tie.MeasureT-loop
 μ-loop most file place begun left₀ at₀ value₀ left at value = left + (length file - at)
 
--- src/line.rt:103:5
 loop-holds : tie.Need-loop-holds Inv-loop μ-loop
 loop-holds c = (omega arith, worth-first _ _ (omega arith) (omega arith), refl)
 
--- src/line.rt:104:20
 shared-slice-read-byte : tie.Need-shared-slice-read-byte Inv-loop μ-loop
 shared-slice-read-byte c = search needs
 
--- src/line.rt:107:43
 add-t13 : tie.Need-add-t13 Inv-loop μ-loop
 add-t13 c = search needs
 
--- src/line.rt:107:17
 returns : tie.Need-returns Inv-loop μ-loop
 returns c =
     let l = c .before .before .before .loop in
     let file = c .before .before .before .before .before .args .file .now in
     sym (l .inv .2 ∙ digits-lf file (l .at) (l .value) (l .left) (c .match .keys1))
 
--- src/line.rt:111:21
 returns-2 : tie.Need-returns-2 Inv-loop μ-loop
 returns-2 c =
     let l = c .before .before .before .before .before .before .loop in
@@ -44,35 +37,28 @@ returns-2 c =
     let none : l .left ≡ 0 = c .if3 .taken in
     sym (l .inv .2 ∙ rw none (digits-full file (l .at) (l .value) (c .before .before .before .match .rest .1)))
 
--- src/line.rt:113:25
 mul-value : tie.Need-mul-value Inv-loop μ-loop
 mul-value c =
     let l = c .before .before .before .before .before .before .loop in
     omega (arith, worth-most (l .left) (l .value) (l .inv .1))
 
--- src/line.rt:113:38
 digit-requires : tie.Need-digit-requires Inv-loop μ-loop
 digit-requires c κs = search needs
 
--- src/line.rt:113:25
 add-value : tie.Need-add-value Inv-loop μ-loop
 add-value c =
     let l = c .before .before .before .before .before .before .before .loop in
     omega (arith, worth-most (l .left) (l .value) (l .inv .1))
 
--- src/line.rt:114:17
 sub-left : tie.Need-sub-left Inv-loop μ-loop
 sub-left c = search needs
 
--- src/line.rt:115:17
 add-at : tie.Need-add-at Inv-loop μ-loop
 add-at c = search needs
 
--- src/line.rt:103:5
 loop-less : tie.Need-loop-less Inv-loop μ-loop
 loop-less c = search needs
 
--- src/line.rt:103:5
 loop-again : tie.Need-loop-again Inv-loop μ-loop
 loop-again c =
     let l = c .before .before .before .before .before .before .before .loop in
@@ -85,21 +71,18 @@ loop-again c =
           ∙ ap (λ (v : ℕ). digitsFrom (l .left - 1) file (l .at + 1) (l .value * 10 + v)) (sym (c .digit .ensures .0)),
     )
 
--- src/line.rt:118:17
 returns-3 : tie.Need-returns-3 Inv-loop μ-loop
 returns-3 c =
     let l = c .before .before .before .before .loop in
     let file = c .before .before .before .before .before .before .args .file .now in
     sym (l .inv .2 ∙ digits-other file (l .at) (l .value) (l .left) (c .before .match .rest .1) (digit-low _ (c .if1 .taken)))
 
--- src/line.rt:118:17
 returns-4 : tie.Need-returns-4 Inv-loop μ-loop
 returns-4 c =
     let l = c .before .before .before .before .before .loop in
     let file = c .before .before .before .before .before .before .before .args .file .now in
     sym (l .inv .2 ∙ digits-other file (l .at) (l .value) (l .left) (c .before .before .match .rest .1) (digit-high _ (omega arith)))
 
--- src/line.rt:96:1
 returns-5 : tie.Need-returns-5 Inv-loop μ-loop
 returns-5 c =
     let l = c .before .loop in

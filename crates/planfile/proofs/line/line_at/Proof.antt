@@ -1,79 +1,54 @@
-use mathlib.Core.Path.{_≡_, refl, sym, _∙_, ap}
-use mathlib.Core.List.{List, [], _∷_, _++_}
-use mathlib.Core.Bool.{true, false}
-use Prim.Native.Nat.{ℕ, _+_, _≤_}
-use lib.ListN.{length, length-append}
+-- `planfile::line::line_at` meets its contract: the key's word and '=' are put together first, and the line begins with them or is a fault.
+use mathlib.Core.Path.{refl, sym, _∙_}
 use borrow.Author.Tests.{not-true, not-false}
-use Rattle.text.specs.TextLaws.{Holds}
-use Rattle.planfile.specs.Words.{word}
-use Rattle.planfile.specs.Line.{lineAt, stands, valueFrom}
 use Rattle.planfile.specs.LineLaws.{Beginning, head-holds, line-past, line-fault, line-value}
 use native.Mathlib.Omega.{arith}
 use borrow.Author.Needs.{needs}
 use Rattle.planfile.proofs.line.line_at.Statement.{statement}
 use Rattle.planfile.proofs.line.line_at.Tie as tie
-use Rattle.planfile.proofs.line.line_at.Reads as reads
-use Rattle.planfile.proofs.line.line_at.Lts as lts
-use Rattle.planfile.proofs.line.stands_at.Reads as stands-at-reads
-use Rattle.planfile.proofs.line.value_at.Reads as value-at-reads
-use Rattle.planfile.proofs.words.append_word.Reads as append-word-reads
-use Rattle.text.proofs.append.Reads as append-reads
 
 -- The bytes that the line begins with, at the front of the list.
 beginning : (c : tie.After-append) → Beginning (c .before .before .before .before .before .before .before .before .args .key) (record { list = c .append .last .0; end = c .append .result })
 beginning c = head-holds _ _ refl (c .before .before .before .before .append-word .ensures) (c .append .ensures)
 
--- src/line.rt:21:9
 returns : tie.Need-returns
 returns c = sym (line-past _ _ _ (c .if1 .taken))
 
--- src/line.rt:24:35
 slice-aggregate-append-word : tie.Need-slice-aggregate-append-word
 slice-aggregate-append-word c = search needs
 
--- src/line.rt:24:9
 append-word-requires : tie.Need-append-word-requires
 append-word-requires c κs = search needs
 
--- src/line.rt:25:22
 slice-aggregate-append : tie.Need-slice-aggregate-append
 slice-aggregate-append c = search needs
 
--- src/line.rt:25:46
 slice-aggregate-append-2 : tie.Need-slice-aggregate-append-2
 slice-aggregate-append-2 c = search needs
 
--- src/line.rt:25:9
 append-requires : tie.Need-append-requires
 append-requires c κs = search needs
 
--- src/line.rt:26:32
 array-share-prefix-head : tie.Need-array-share-prefix-head
 array-share-prefix-head c = omega (arith, (beginning (c .before)) .end-most)
 
--- src/line.rt:26:32
 slice-aggregate-stands-at : tie.Need-slice-aggregate-stands-at
 slice-aggregate-stands-at c = sym (beginning (c .before .before) .length-front)
 
--- src/line.rt:26:9
 stands-at-requires : tie.Need-stands-at-requires
 stands-at-requires c κs = let b = beginning (c .before .before) in omega (arith, b .length-front, b .end-most)
 
--- src/line.rt:27:9
 returns-2 : tie.Need-returns-2
 returns-2 c =
     let there = sym (c .before .stands-at .ensures) ∙ not-true _ (c .if2 .taken) in
     sym (line-fault _ _ (beginning (c .before .before .before .before)) there)
 
--- src/line.rt:29:20
 add-value-at : tie.Need-add-value-at
 add-value-at c = omega (arith, (beginning (c .before .before .before .before)) .end-most)
 
--- src/line.rt:29:5
 value-at-requires : tie.Need-value-at-requires
 value-at-requires c κs = omega (arith, (beginning (c .before .before .before .before)) .end-most)
 
--- src/line.rt:17:1
 returns-3 : tie.Need-returns-3
 returns-3 c =
     let there = sym (c .before .before .stands-at .ensures) ∙ not-false _ (c .before .if2 .left) in

@@ -1,4 +1,5 @@
-use Prim.Native.Nat.{ℕ, _≤_, _+_, _-_}
+-- `planfile::line::stands_at` meets its contract: each byte passed is the one asked for.
+use Prim.Native.Nat.{_≤_, _+_, _-_}
 use mathlib.Core.Path.{_≡_, sym, _∙_}
 use mathlib.Core.Bool.{true}
 use borrow.Author.Tests.{eq-eqb, ne-eqb}
@@ -11,9 +12,6 @@ use native.Mathlib.Omega.{arith}
 use borrow.Author.Needs.{needs}
 use Rattle.planfile.proofs.line.stands_at.Statement.{statement}
 use Rattle.planfile.proofs.line.stands_at.Tie as tie
-use Rattle.planfile.proofs.line.stands_at.Reads as reads
-use Rattle.planfile.proofs.line.stands_at.Lts as lts
-use Rattle.planfile.proofs.line.byte_at.Reads as byte-at-reads
 
 abbrev Inv-loop : tie.InvT-loop
 Inv-loop file place bytes i₀ i = (i ≤ length bytes) × (all i (λ k. eqb (getD file (place + k) 0) (getD bytes k 0)) ≡ true)
@@ -21,23 +19,18 @@ Inv-loop file place bytes i₀ i = (i ≤ length bytes) × (all i (λ k. eqb (ge
 abbrev μ-loop : tie.MeasureT-loop
 μ-loop file place bytes i₀ i = length bytes - i
 
--- src/line.rt:55:5
 loop-holds : tie.Need-loop-holds Inv-loop μ-loop
 loop-holds c = (omega arith, all-none _)
 
--- src/line.rt:56:26
 add-byte-at : tie.Need-add-byte-at Inv-loop μ-loop
 add-byte-at c = search needs
 
--- src/line.rt:56:12
 byte-at-requires : tie.Need-byte-at-requires Inv-loop μ-loop
 byte-at-requires c κs = search needs
 
--- src/line.rt:56:40
 shared-slice-read-if1 : tie.Need-shared-slice-read-if1 Inv-loop μ-loop
 shared-slice-read-if1 c = search needs
 
--- src/line.rt:57:13
 returns : tie.Need-returns Inv-loop μ-loop
 unfolding stands
 returns c =
@@ -46,15 +39,12 @@ returns c =
     let fails = ne-eqb _ _ (λ q. c .if1 .taken (c .before .before .byte-at .ensures ∙ q)) in
     sym (all-fails (length (a .bytes .now)) (λ k. eqb (getD (a .file .now) (a .place + k) 0) (getD (a .bytes .now) k 0)) (l .i) (omega arith) fails)
 
--- src/line.rt:59:9
 add-i : tie.Need-add-i Inv-loop μ-loop
 add-i c = search needs
 
--- src/line.rt:55:5
 loop-less : tie.Need-loop-less Inv-loop μ-loop
 loop-less c = search needs
 
--- src/line.rt:55:5
 loop-again : tie.Need-loop-again Inv-loop μ-loop
 loop-again c =
     let a = c .before .before .before .before .before .before .before .args in
@@ -62,7 +52,6 @@ loop-again c =
     let passes = eq-eqb _ _ (sym (c .before .before .byte-at .ensures) ∙ c .if1 .left) in
     (omega arith, all-more (l .i) (λ k. eqb (getD (a .file .now) (a .place + k) 0) (getD (a .bytes .now) k 0)) (l .inv .1) passes)
 
--- src/line.rt:50:1
 returns-2 : tie.Need-returns-2 Inv-loop μ-loop
 unfolding stands
 returns-2 c =

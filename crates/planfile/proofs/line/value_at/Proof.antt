@@ -1,49 +1,36 @@
-use mathlib.Core.Path.{_≡_, sym, _∙_, ap}
-use Prim.Native.Nat.{ℕ, _+_, _-_, _<_, _≤_}
-use lib.ListN.{getD}
+-- `planfile::line::value_at` meets its contract: the first byte says how many digits may follow it.
+use mathlib.Core.Path.{sym, _∙_, ap}
+use Prim.Native.Nat.{ℕ, _+_}
 use Rattle.planfile.specs.Line.{digitsFrom}
 use Rattle.planfile.specs.LineLaws.{digit-low, digit-high, value-zero, value-first, value-other}
 use native.Mathlib.Omega.{arith}
 use borrow.Author.Needs.{needs}
 use Rattle.planfile.proofs.line.value_at.Statement.{statement}
 use Rattle.planfile.proofs.line.value_at.Tie as tie
-use Rattle.planfile.proofs.line.value_at.Reads as reads
-use Rattle.planfile.proofs.line.value_at.Lts as lts
-use Rattle.planfile.proofs.line.byte_at.Reads as byte-at-reads
-use Rattle.planfile.proofs.line.digit.Reads as digit-reads
-use Rattle.planfile.proofs.line.digits_at.Reads as digits-at-reads
 
--- src/line.rt:79:9
 byte-at-requires : tie.Need-byte-at-requires
 byte-at-requires c κs = search needs
 
--- src/line.rt:81:36
 add-digits-at : tie.Need-add-digits-at
 add-digits-at c = search needs
 
--- src/line.rt:81:17
 digits-at-requires : tie.Need-digits-at-requires
 digits-at-requires c κs = search needs
 
--- src/line.rt:82:43
 add-digits-at-2 : tie.Need-add-digits-at-2
 add-digits-at-2 c = search needs
 
--- src/line.rt:82:54
 digit-requires : tie.Need-digit-requires
 digit-requires c κs = search needs
 
--- src/line.rt:82:24
 digits-at-requires-2 : tie.Need-digits-at-requires-2
 digits-at-requires-2 c κs = search needs
 
--- src/line.rt:75:1
 returns : tie.Need-returns
 returns c =
     let a = c .before .before .before .before .args in
     c .digits-at .ensures ∙ sym (value-zero (a .file .now) (a .place) (sym (c .before .before .byte-at .ensures) ∙ c .before .match .keys1))
 
--- src/line.rt:75:1
 returns-2 : tie.Need-returns-2
 returns-2 c =
     let a = c .before .before .before .before .before .before .before .args in
@@ -51,13 +38,11 @@ returns-2 c =
     c .digits-at2 .ensures ∙ ap (λ (v : ℕ). digitsFrom 8 (a .file .now) (a .place + 1) v) (omega (arith, byte, c .before .digit .ensures .0))
     ∙ sym (value-first (a .file .now) (a .place) (omega (arith, byte)) (omega (arith, byte)))
 
--- src/line.rt:75:1
 returns-3 : tie.Need-returns-3
 returns-3 c =
     let a = c .before .before .before .before .args in
     sym (value-other (a .file .now) (a .place) (digit-low _ (omega (arith, c .before .before .byte-at .ensures))))
 
--- src/line.rt:75:1
 returns-4 : tie.Need-returns-4
 returns-4 c =
     let a = c .before .before .before .before .before .args in

@@ -1,3 +1,4 @@
+-- `planfile::read::lay` meets its contract: the entries passed are laid over.
 use Prim.Native.Nat.{ℕ, _≤_, _-_}
 use mathlib.Core.Path.{_≡_, refl, _∙_}
 use mathlib.Core.List.{List}
@@ -9,8 +10,6 @@ use native.Mathlib.Omega.{arith}
 use borrow.Author.Needs.{needs}
 use Rattle.planfile.proofs.read.lay.Statement.{statement}
 use Rattle.planfile.proofs.read.lay.Tie as tie
-use Rattle.planfile.proofs.read.lay.Reads as reads
-use Rattle.planfile.proofs.read.lay.Lts as lts
 
 -- The first entries of a list, filled in, are laid over.
 laid-front : (from : List ℕ) (n : ℕ) (over : List ℕ) → n ≤ length from → filled (λ k. getD from k 0) n over ≡ laid (take n from) over
@@ -22,45 +21,35 @@ Inv-loop from count over₀ i₀ over i = (i ≤ count) × (length over ≡ leng
 abbrev μ-loop : tie.MeasureT-loop
 μ-loop from count over₀ i₀ over i = count - i
 
--- src/read.rt:168:5
 loop-holds : tie.Need-loop-holds Inv-loop μ-loop
 loop-holds c = (omega arith, refl, filled-none _ _)
 
--- src/read.rt:169:19
 mul-over : tie.Need-mul-over Inv-loop μ-loop
 mul-over c = search needs
 
--- src/read.rt:169:19
 shared-slice-read-over : tie.Need-shared-slice-read-over Inv-loop μ-loop
 shared-slice-read-over c = search needs
 
--- src/read.rt:169:9
 mul-over-2 : tie.Need-mul-over-2 Inv-loop μ-loop
 mul-over-2 c = search needs
 
--- src/read.rt:169:9
 slice-write-over : tie.Need-slice-write-over Inv-loop μ-loop
 slice-write-over c = search needs
 
--- src/read.rt:170:9
 add-i : tie.Need-add-i Inv-loop μ-loop
 add-i c = search needs
 
--- src/read.rt:168:5
 loop-less : tie.Need-loop-less Inv-loop μ-loop
 loop-less c = search needs
 
--- src/read.rt:168:5
 loop-again : tie.Need-loop-again Inv-loop μ-loop
 loop-again c =
     let l = c .before .before .loop in
     (omega arith, simp length-set (l .inv .1), rw (l .inv .2) (filled-more _ _ _ _ (omega arith) refl))
 
--- src/read.rt:163:1
 same-length : tie.Need-same-length Inv-loop μ-loop
 same-length c = search needs
 
--- src/read.rt:163:1
 returns : tie.Need-returns Inv-loop μ-loop
 returns c =
     let l = c .before .loop in

@@ -1,129 +1,96 @@
-use Prim.Native.Nat.{_≤_}
-use mathlib.Core.Path.{_≡_, sym, _∙_}
+-- `planfile::read::read` meets its contract: 7 for rows, 7 for tasks, 1, and then what the lines hold.
+use mathlib.Core.Path.{sym, _∙_}
 use borrow.Author.Tests.{not-true, not-false, lt-ltb, le-ltb}
 use Rattle.table.specs.TableLaws.{long-of}
 use Rattle.planfile.specs.Reading.{read}
-use native.Mathlib.Omega.{arith}
 use borrow.Author.Needs.{needs}
 use Rattle.planfile.proofs.read.read.Statement.{statement}
 use Rattle.planfile.proofs.read.read.Tie as tie
-use Rattle.planfile.proofs.read.read.Reads as reads
-use Rattle.planfile.proofs.read.read.Lts as lts
-use Rattle.planfile.proofs.read.has_room.Reads as has-room-reads
-use Rattle.planfile.proofs.read.read_table.Reads as read-table-reads
 
--- src/read.rt:258:9
 has-room-requires : tie.Need-has-room-requires
 has-room-requires c κs = search needs
 
--- src/read.rt:259:9
 same-length : tie.Need-same-length
 same-length c = search needs
 
--- src/read.rt:259:9
 same-length-2 : tie.Need-same-length-2
 same-length-2 c = search needs
 
--- src/read.rt:259:9
 same-length-3 : tie.Need-same-length-3
 same-length-3 c = search needs
 
--- src/read.rt:259:9
 returns : tie.Need-returns
 unfolding read
 returns c = rw (sym (c .before .has-room .ensures) ∙ not-true _ (c .if1 .taken))
 
--- src/read.rt:261:9
 has-room-requires-2 : tie.Need-has-room-requires-2
 has-room-requires-2 c κs = search needs
 
--- src/read.rt:262:9
 same-length-4 : tie.Need-same-length-4
 same-length-4 c = search needs
 
--- src/read.rt:262:9
 same-length-5 : tie.Need-same-length-5
 same-length-5 c = search needs
 
--- src/read.rt:262:9
 same-length-6 : tie.Need-same-length-6
 same-length-6 c = search needs
 
--- src/read.rt:262:9
 same-length-7 : tie.Need-same-length-7
 same-length-7 c = search needs
 
--- src/read.rt:262:9
 same-length-8 : tie.Need-same-length-8
 same-length-8 c = search needs
 
--- src/read.rt:262:9
 same-length-9 : tie.Need-same-length-9
 same-length-9 c = search needs
 
--- src/read.rt:262:9
 returns-2 : tie.Need-returns-2
 unfolding read
 returns-2 c = rw (sym (c .before .before .before .before .before .before .has-room .ensures) ∙ not-false _ (c .before .before .before .before .before .if1 .left), sym (c .before .has-room2 .ensures) ∙ not-true _ (c .if2 .taken))
 
--- src/read.rt:265:9
 same-length-10 : tie.Need-same-length-10
 same-length-10 c = search needs
 
--- src/read.rt:265:9
 same-length-11 : tie.Need-same-length-11
 same-length-11 c = search needs
 
--- src/read.rt:265:9
 same-length-12 : tie.Need-same-length-12
 same-length-12 c = search needs
 
--- src/read.rt:265:9
 same-length-13 : tie.Need-same-length-13
 same-length-13 c = search needs
 
--- src/read.rt:265:9
 same-length-14 : tie.Need-same-length-14
 same-length-14 c = search needs
 
--- src/read.rt:265:9
 same-length-15 : tie.Need-same-length-15
 same-length-15 c = search needs
 
--- src/read.rt:265:9
 returns-3 : tie.Need-returns-3
 unfolding read
 returns-3 c = rw (sym (c .before .before .before .before .before .before .before .has-room .ensures) ∙ not-false _ (c .before .before .before .before .before .before .if1 .left), sym (c .before .before .has-room2 .ensures) ∙ not-false _ (c .before .if2 .left), lt-ltb _ _ (c .if3 .taken))
 
--- src/read.rt:267:5
 read-table-requires : tie.Need-read-table-requires
 read-table-requires c κs = record { tasks = long-of _ _ _ _ (sym (c .before .before .before .before .before .before .before .before .has-room2 .ensures) ∙ not-false _ (c .before .before .before .before .before .before .before .if2 .left)); rows = long-of _ _ _ _ (sym (c .before .before .before .before .before .before .before .before .before .before .before .before .before .has-room .ensures) ∙ not-false _ (c .before .before .before .before .before .before .before .before .before .before .before .before .if1 .left)) }
 
--- src/read.rt:246:1
 same-length-16 : tie.Need-same-length-16
 same-length-16 c = search needs
 
--- src/read.rt:246:1
 same-length-17 : tie.Need-same-length-17
 same-length-17 c = search needs
 
--- src/read.rt:246:1
 same-length-18 : tie.Need-same-length-18
 same-length-18 c = search needs
 
--- src/read.rt:246:1
 same-length-19 : tie.Need-same-length-19
 same-length-19 c = search needs
 
--- src/read.rt:246:1
 same-length-20 : tie.Need-same-length-20
 same-length-20 c = search needs
 
--- src/read.rt:246:1
 same-length-21 : tie.Need-same-length-21
 same-length-21 c = search needs
 
--- src/read.rt:246:1
 returns-4 : tie.Need-returns-4
 unfolding read
 returns-4 c = rw (sym (c .before .before .before .before .before .before .before .before .before .before .before .before .before .before .before .before .before .before .before .before .before .before .before .before .before .before .has-room .ensures) ∙ not-false _ (c .before .before .before .before .before .before .before .before .before .before .before .before .before .before .before .before .before .before .before .before .before .before .before .before .before .if1 .left), sym (c .before .before .before .before .before .before .before .before .before .before .before .before .before .before .before .before .before .before .before .before .before .has-room2 .ensures) ∙ not-false _ (c .before .before .before .before .before .before .before .before .before .before .before .before .before .before .before .before .before .before .before .before .if2 .left), le-ltb _ _ (c .before .before .before .before .before .before .before .before .before .before .before .before .before .before .before .before .before .before .before .if3 .left)) (c .before .before .before .before .before .before .before .before .before .before .before .before .read-table .ensures)

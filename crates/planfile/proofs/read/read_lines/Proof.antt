@@ -1,21 +1,15 @@
-use Prim.Native.Nat.{ℕ, _-_, _≤_}
-use mathlib.Core.Path.{_≡_, refl, sym, _∙_, ap}
+-- `planfile::read::read_lines` meets its contract: at each line, the lines from it on say what the whole file holds.
+use Prim.Native.Nat.{_-_}
+use mathlib.Core.Path.{_≡_, refl, sym, _∙_}
 use lib.ListN.{length}
 use Rattle.planfile.specs.declared.read.Judged.the-variants.{Right}
 use Rattle.planfile.specs.Line.{lineAt}
-use Rattle.planfile.specs.Reading.{Lists}
-use Rattle.planfile.specs.Reader.{judgement, listsOf, stored}
+use Rattle.planfile.specs.Reader.{judgement, listsOf}
 use Rattle.planfile.specs.ReaderLaws.{Reached, reached-start, reached-same, reached-few, reached-slots, reached-behind, reached-value, reached-refused, reached-next, reached-more, found-refused, found-table}
 use native.Mathlib.Omega.{arith}
 use borrow.Author.Needs.{needs}
 use Rattle.planfile.proofs.read.read_lines.Statement.{statement}
 use Rattle.planfile.proofs.read.read_lines.Tie as tie
-use Rattle.planfile.proofs.read.read_lines.Reads as reads
-use Rattle.planfile.proofs.read.read_lines.Lts as lts
-use Rattle.planfile.proofs.due.advance.Reads as advance-reads
-use Rattle.planfile.proofs.due.first.Reads as first-reads
-use Rattle.planfile.proofs.read.judge.Reads as judge-reads
-use Rattle.planfile.proofs.read.store.Reads as store-reads
 
 abbrev Inv-loop : tie.InvT-loop
 Inv-loop file period₀ deadline₀ steps₀ processor₀ priority₀ time₀ due₀ place₀ number₀ period deadline steps processor priority time due place number =
@@ -32,133 +26,102 @@ right :
     ≡ Right (c .judged .given .0 .0) (c .judged .given .0 .1 .0)
 right c = sym (c .before .before .judge .ensures) ∙ c .judged .given .1
 
--- src/read.rt:139:9
 first-requires : tie.Need-first-requires Inv-loop μ-loop
 first-requires c κs = search needs
 
--- src/read.rt:142:5
 loop-holds : tie.Need-loop-holds Inv-loop μ-loop
 loop-holds c = reached-same (c .first .ensures) refl (reached-start _ _ (c .before .before .before .before .before .before .before .before .pre))
 
--- src/read.rt:143:13
 judge-requires : tie.Need-judge-requires Inv-loop μ-loop
 judge-requires c κs = reached-few (c .before .before .loop .inv)
 
--- src/read.rt:145:27
 enum-known-judged : tie.Need-enum-known-judged Inv-loop μ-loop
 enum-known-judged c = search needs
 
--- src/read.rt:146:17
 store-requires : tie.Need-store-requires Inv-loop μ-loop
 store-requires c κs = reached-slots (c .before .before .before .before .before .before .before .before .before .before .before .before .loop .inv)
 
--- src/read.rt:147:17
 advance-requires : tie.Need-advance-requires Inv-loop μ-loop
 advance-requires c κs = (reached-few (c .before .before .before .before .before .before .before .before .before .before .before .before .before .before .before .before .before .before .before .before .before .before .before .before .before .loop .inv), reached-value (c .before .before .before .before .before .before .before .before .before .before .before .before .before .before .before .before .before .before .before .before .before .before .before .before .before .loop .inv) (right (c .before .before .before .before .before .before .before .before .before .before .before .before .before .before .before .before .before .before .before .before)))
 
--- src/read.rt:149:17
 add-number : tie.Need-add-number Inv-loop μ-loop
 add-number c =
     let s = c .before .before .before .before .before .before .before .before .before .before .before .before .before .before .before .before .before .before .before .before .before .before .before .before .before .before .loop .inv in
     omega (arith, s .number-most, s .place-most, c .before .before .before .before .before .before .before .before .before .before .before .before .before .before .before .before .before .before .before .before .before .before .before .before .before .before .before .before .before .before .before .before .before .before .before .good .0 .1)
 
--- src/read.rt:142:5
 loop-less : tie.Need-loop-less Inv-loop μ-loop
 loop-less c =
     let b = reached-behind (c .before .before .before .before .before .before .before .before .before .before .before .before .before .before .before .before .before .before .before .before .before .before .before .before .before .before .loop .inv) (right (c .before .before .before .before .before .before .before .before .before .before .before .before .before .before .before .before .before .before .before .before .before)) in
     omega (arith, b .0, b .1)
 
--- src/read.rt:142:5
 loop-again : tie.Need-loop-again Inv-loop μ-loop
 loop-again c =
     reached-same (c .advance .ensures) (c .before .before .before .before .before .before .before .before .before .before .before .before .before .store .ensures)
     (reached-next (c .before .before .before .before .before .before .before .before .before .before .before .before .before .before .before .before .before .before .before .before .before .before .before .before .before .before .loop .inv) (c .before .before .before .before .before .before .before .before .before .before .before .before .before .before .before .before .before .before .before .before .before .before .before .before .if1 .taken) (right (c .before .before .before .before .before .before .before .before .before .before .before .before .before .before .before .before .before .before .before .before .before)))
 
--- src/read.rt:151:27
 enum-known-judged-2 : tie.Need-enum-known-judged-2 Inv-loop μ-loop
 enum-known-judged-2 c = search needs
 
--- src/read.rt:152:17
 same-length : tie.Need-same-length Inv-loop μ-loop
 same-length c = search needs
 
--- src/read.rt:152:17
 same-length-2 : tie.Need-same-length-2 Inv-loop μ-loop
 same-length-2 c = search needs
 
--- src/read.rt:152:17
 same-length-3 : tie.Need-same-length-3 Inv-loop μ-loop
 same-length-3 c = search needs
 
--- src/read.rt:152:17
 same-length-4 : tie.Need-same-length-4 Inv-loop μ-loop
 same-length-4 c = search needs
 
--- src/read.rt:152:17
 same-length-5 : tie.Need-same-length-5 Inv-loop μ-loop
 same-length-5 c = search needs
 
--- src/read.rt:152:17
 same-length-6 : tie.Need-same-length-6 Inv-loop μ-loop
 same-length-6 c = search needs
 
--- src/read.rt:152:17
 returns : tie.Need-returns Inv-loop μ-loop
 returns c = found-refused _ (reached-refused (c .before .before .before .before .before .before .loop .inv) (c .before .before .before .before .if1 .taken) (sym (c .before .before .before .judge .ensures) ∙ c .before .judged2 .given .1))
 
--- src/read.rt:157:9
 same-length-7 : tie.Need-same-length-7 Inv-loop μ-loop
 same-length-7 c = search needs
 
--- src/read.rt:157:9
 same-length-8 : tie.Need-same-length-8 Inv-loop μ-loop
 same-length-8 c = search needs
 
--- src/read.rt:157:9
 same-length-9 : tie.Need-same-length-9 Inv-loop μ-loop
 same-length-9 c = search needs
 
--- src/read.rt:157:9
 same-length-10 : tie.Need-same-length-10 Inv-loop μ-loop
 same-length-10 c = search needs
 
--- src/read.rt:157:9
 same-length-11 : tie.Need-same-length-11 Inv-loop μ-loop
 same-length-11 c = search needs
 
--- src/read.rt:157:9
 same-length-12 : tie.Need-same-length-12 Inv-loop μ-loop
 same-length-12 c = search needs
 
--- src/read.rt:157:9
 returns-2 : tie.Need-returns-2 Inv-loop μ-loop
 returns-2 c = found-refused _ (reached-more (c .before .before .before .loop .inv) (c .before .if1 .left) (c .if2 .taken))
 
--- src/read.rt:127:1
 same-length-13 : tie.Need-same-length-13 Inv-loop μ-loop
 same-length-13 c = search needs
 
--- src/read.rt:127:1
 same-length-14 : tie.Need-same-length-14 Inv-loop μ-loop
 same-length-14 c = search needs
 
--- src/read.rt:127:1
 same-length-15 : tie.Need-same-length-15 Inv-loop μ-loop
 same-length-15 c = search needs
 
--- src/read.rt:127:1
 same-length-16 : tie.Need-same-length-16 Inv-loop μ-loop
 same-length-16 c = search needs
 
--- src/read.rt:127:1
 same-length-17 : tie.Need-same-length-17 Inv-loop μ-loop
 same-length-17 c = search needs
 
--- src/read.rt:127:1
 same-length-18 : tie.Need-same-length-18 Inv-loop μ-loop
 same-length-18 c = search needs
 
--- src/read.rt:127:1
 returns-3 : tie.Need-returns-3 Inv-loop μ-loop
 returns-3 c = found-table (c .before .before .before .loop .inv) (c .before .if1 .left) (c .if2 .left)
 

@@ -1,6 +1,4 @@
-use mathlib.Core.Path.{_≡_}
-use Prim.Native.Nat.{_≤_}
-use lib.ListN.{length}
+-- `planfile::read::read_table` meets its contract: what the lines hold is laid over the lent lists, or refused.
 use Rattle.planfile.specs.declared.read.Found.the-variants as found
 use Rattle.planfile.specs.Reading.{Lists}
 use Rattle.planfile.specs.Reader.{listsOf}
@@ -9,10 +7,6 @@ use native.Mathlib.Omega.{arith}
 use borrow.Author.Needs.{needs}
 use Rattle.planfile.proofs.read.read_table.Statement.{statement}
 use Rattle.planfile.proofs.read.read_table.Tie as tie
-use Rattle.planfile.proofs.read.read_table.Reads as reads
-use Rattle.planfile.proofs.read.read_table.Lts as lts
-use Rattle.planfile.proofs.read.lay.Reads as lay-reads
-use Rattle.planfile.proofs.read.read_lines.Reads as read-lines-reads
 
 -- The lists that are lent.
 abbrev lent : tie.Start → Lists
@@ -29,121 +23,92 @@ table c = rw (c .found .given .1) at (c .before .before .before .before .before 
 refused : (c : tie.After-found2) → FoundIn (c .before .before .before .before .before .before .before .before .before .before .before .before .before .before .before .before .before .before .before .before .before .before .args .file .now) (found.Refused (c .found2 .given .0 .0)) (listsOf (c .before .before .before .before .before .before .before .before .read-lines .last .1 .0) (c .before .before .before .before .before .before .before .before .read-lines .last .1 .1 .0) (c .before .before .before .before .before .before .before .before .read-lines .last .1 .1 .1 .0) (c .before .before .before .before .before .before .before .before .read-lines .last .1 .1 .1 .1 .0) (c .before .before .before .before .before .before .before .before .read-lines .last .1 .1 .1 .1 .1 .0) (c .before .before .before .before .before .before .before .before .read-lines .last .1 .1 .1 .1 .1 .1 .0))
 refused c = rw (c .found2 .given .1) at (c .before .before .before .before .before .before .before .before .read-lines .ensures)
 
--- src/read.rt:221:9
 slice-aggregate-read-lines : tie.Need-slice-aggregate-read-lines
 slice-aggregate-read-lines c = search needs
 
--- src/read.rt:222:9
 slice-aggregate-read-lines-2 : tie.Need-slice-aggregate-read-lines-2
 slice-aggregate-read-lines-2 c = search needs
 
--- src/read.rt:223:9
 slice-aggregate-read-lines-3 : tie.Need-slice-aggregate-read-lines-3
 slice-aggregate-read-lines-3 c = search needs
 
--- src/read.rt:224:9
 slice-aggregate-read-lines-4 : tie.Need-slice-aggregate-read-lines-4
 slice-aggregate-read-lines-4 c = search needs
 
--- src/read.rt:225:9
 slice-aggregate-read-lines-5 : tie.Need-slice-aggregate-read-lines-5
 slice-aggregate-read-lines-5 c = search needs
 
--- src/read.rt:226:9
 slice-aggregate-read-lines-6 : tie.Need-slice-aggregate-read-lines-6
 slice-aggregate-read-lines-6 c = search needs
 
--- src/read.rt:219:9
 read-lines-requires : tie.Need-read-lines-requires
 read-lines-requires c κs = search needs
 
--- src/read.rt:229:22
 enum-known-found : tie.Need-enum-known-found
 enum-known-found c = search needs
 
--- src/read.rt:230:17
 slice-aggregate-lay : tie.Need-slice-aggregate-lay
 slice-aggregate-lay c = search needs
 
--- src/read.rt:230:13
 lay-requires : tie.Need-lay-requires
 lay-requires c κs = omega (arith, table (c .before .before .before) .few .0, c .before .before .before .before .before .before .before .before .before .before .before .read-lines .kept .1 .0, c .before .before .before .before .before .before .before .before .before .before .before .before .before .before .before .before .before .before .before .before .before .before .before .before .before .pre .tasks .one)
 
--- src/read.rt:231:17
 slice-aggregate-lay-2 : tie.Need-slice-aggregate-lay-2
 slice-aggregate-lay-2 c = search needs
 
--- src/read.rt:231:13
 lay-requires-2 : tie.Need-lay-requires-2
 lay-requires-2 c κs = omega (arith, table (c .before .before .before .before .before .before .before .before) .few .0, c .before .before .before .before .before .before .before .before .before .before .before .before .before .before .before .before .read-lines .kept .1 .1 .0, c .before .before .before .before .before .before .before .before .before .before .before .before .before .before .before .before .before .before .before .before .before .before .before .before .before .before .before .before .before .before .pre .tasks .two)
 
--- src/read.rt:232:17
 slice-aggregate-lay-3 : tie.Need-slice-aggregate-lay-3
 slice-aggregate-lay-3 c = search needs
 
--- src/read.rt:232:13
 lay-requires-3 : tie.Need-lay-requires-3
 lay-requires-3 c κs = omega (arith, table (c .before .before .before .before .before .before .before .before .before .before .before .before .before) .few .0, c .before .before .before .before .before .before .before .before .before .before .before .before .before .before .before .before .before .before .before .before .before .read-lines .kept .1 .1 .1 .0, c .before .before .before .before .before .before .before .before .before .before .before .before .before .before .before .before .before .before .before .before .before .before .before .before .before .before .before .before .before .before .before .before .before .before .before .pre .tasks .three)
 
--- src/read.rt:233:17
 slice-aggregate-lay-4 : tie.Need-slice-aggregate-lay-4
 slice-aggregate-lay-4 c = search needs
 
--- src/read.rt:233:13
 lay-requires-4 : tie.Need-lay-requires-4
 lay-requires-4 c κs = omega (arith, table (c .before .before .before .before .before .before .before .before .before .before .before .before .before .before .before .before .before .before) .few .1, c .before .before .before .before .before .before .before .before .before .before .before .before .before .before .before .before .before .before .before .before .before .before .before .before .before .before .read-lines .kept .1 .1 .1 .1 .0, c .before .before .before .before .before .before .before .before .before .before .before .before .before .before .before .before .before .before .before .before .before .before .before .before .before .before .before .before .before .before .before .before .before .before .before .before .before .before .before .before .pre .rows .one)
 
--- src/read.rt:234:17
 slice-aggregate-lay-5 : tie.Need-slice-aggregate-lay-5
 slice-aggregate-lay-5 c = search needs
 
--- src/read.rt:234:13
 lay-requires-5 : tie.Need-lay-requires-5
 lay-requires-5 c κs = omega (arith, table (c .before .before .before .before .before .before .before .before .before .before .before .before .before .before .before .before .before .before .before .before .before .before .before) .few .1, c .before .before .before .before .before .before .before .before .before .before .before .before .before .before .before .before .before .before .before .before .before .before .before .before .before .before .before .before .before .before .before .read-lines .kept .1 .1 .1 .1 .1 .0, c .before .before .before .before .before .before .before .before .before .before .before .before .before .before .before .before .before .before .before .before .before .before .before .before .before .before .before .before .before .before .before .before .before .before .before .before .before .before .before .before .before .before .before .before .before .pre .rows .two)
 
--- src/read.rt:235:17
 slice-aggregate-lay-6 : tie.Need-slice-aggregate-lay-6
 slice-aggregate-lay-6 c = search needs
 
--- src/read.rt:235:13
 lay-requires-6 : tie.Need-lay-requires-6
 lay-requires-6 c κs = omega (arith, table (c .before .before .before .before .before .before .before .before .before .before .before .before .before .before .before .before .before .before .before .before .before .before .before .before .before .before .before .before) .few .1, c .before .before .before .before .before .before .before .before .before .before .before .before .before .before .before .before .before .before .before .before .before .before .before .before .before .before .before .before .before .before .before .before .before .before .before .before .read-lines .kept .1 .1 .1 .1 .1 .1 .0, c .before .before .before .before .before .before .before .before .before .before .before .before .before .before .before .before .before .before .before .before .before .before .before .before .before .before .before .before .before .before .before .before .before .before .before .before .before .before .before .before .before .before .before .before .before .before .before .before .before .before .pre .rows .three)
 
--- src/read.rt:241:24
 enum-known-found-2 : tie.Need-enum-known-found-2
 enum-known-found-2 c = search needs
 
--- src/read.rt:200:1
 same-length : tie.Need-same-length
 same-length c = search needs
 
--- src/read.rt:200:1
 same-length-2 : tie.Need-same-length-2
 same-length-2 c = search needs
 
--- src/read.rt:200:1
 same-length-3 : tie.Need-same-length-3
 same-length-3 c = search needs
 
--- src/read.rt:200:1
 same-length-4 : tie.Need-same-length-4
 same-length-4 c = search needs
 
--- src/read.rt:200:1
 same-length-5 : tie.Need-same-length-5
 same-length-5 c = search needs
 
--- src/read.rt:200:1
 same-length-6 : tie.Need-same-length-6
 same-length-6 c = search needs
 
--- src/read.rt:200:1
 returns : tie.Need-returns
 returns c =
     read-found (lent (c .before .before .before .before .before .before .before .before .before .before .before .before .before .before .before .before .before .before .before .before .before .before .before .before .before .before .before .before .before .before .before .before .before .before .before .before .before .before .before .before .before .before .before .before .before .before .before .before .before .before .before .before .before)) (table (c .before .before .before .before .before .before .before .before .before .before .before .before .before .before .before .before .before .before .before .before .before .before .before .before .before .before .before .before .before .before .before))
     (c .before .before .before .before .before .before .before .before .before .before .before .before .before .before .before .before .before .before .before .before .before .before .before .before .before .before .before .lay .ensures) (c .before .before .before .before .before .before .before .before .before .before .before .before .before .before .before .before .before .before .before .before .before .before .lay2 .ensures) (c .before .before .before .before .before .before .before .before .before .before .before .before .before .before .before .before .before .lay3 .ensures) (c .before .before .before .before .before .before .before .before .before .before .before .before .lay4 .ensures) (c .before .before .before .before .before .before .before .lay5 .ensures) (c .before .before .lay6 .ensures)
 
--- src/read.rt:200:1
 returns-2 : tie.Need-returns-2
 returns-2 c = read-refused (lent (c .before .before .before .before .before .before .before .before .before .before .before .before .before .before .before .before .before .before .before .before .before .before .before)) (refused (c .before))
 

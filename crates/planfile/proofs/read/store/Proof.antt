@@ -1,5 +1,6 @@
+-- `planfile::read::store` meets its contract: each key stores into its own list, and the other lists stay.
 use Prim.Native.Nat.{ℕ}
-use mathlib.Core.Path.{_≡_, sym, ap}
+use mathlib.Core.Path.{sym, ap}
 use borrow.Author.Tests.{ne-eqb}
 use Rattle.planfile.specs.Reading.{Lists}
 use Rattle.planfile.specs.Reader.{stored, storedIf}
@@ -7,8 +8,6 @@ use native.Mathlib.Omega.{arith}
 use borrow.Author.Needs.{needs}
 use Rattle.planfile.proofs.read.store.Statement.{statement}
 use Rattle.planfile.proofs.read.store.Tie as tie
-use Rattle.planfile.proofs.read.store.Reads as reads
-use Rattle.planfile.proofs.read.store.Lts as lts
 
 abbrev lists : tie.Start → Lists
 lists c = record {
@@ -20,109 +19,84 @@ lists c = record {
   time = c .args .time .now;
 }
 
--- src/read.rt:105:13
 mul-period : tie.Need-mul-period
 mul-period c = omega (arith, c .before .pre .period (c .match .keys1))
 
--- src/read.rt:105:13
 slice-write-period : tie.Need-slice-write-period
 slice-write-period c = omega (arith, c .before .pre .period (c .match .keys1))
 
--- src/read.rt:108:13
 mul-deadline : tie.Need-mul-deadline
 mul-deadline c = omega (arith, c .before .pre .deadline (c .match .keys2))
 
--- src/read.rt:108:13
 slice-write-deadline : tie.Need-slice-write-deadline
 slice-write-deadline c = omega (arith, c .before .pre .deadline (c .match .keys2))
 
--- src/read.rt:111:13
 mul-steps : tie.Need-mul-steps
 mul-steps c = omega (arith, c .before .pre .steps (c .match .keys3))
 
--- src/read.rt:111:13
 slice-write-steps : tie.Need-slice-write-steps
 slice-write-steps c = omega (arith, c .before .pre .steps (c .match .keys3))
 
--- src/read.rt:114:13
 mul-processor : tie.Need-mul-processor
 mul-processor c = omega (arith, c .before .pre .processor (c .match .keys4))
 
--- src/read.rt:114:13
 slice-write-processor : tie.Need-slice-write-processor
 slice-write-processor c = omega (arith, c .before .pre .processor (c .match .keys4))
 
--- src/read.rt:117:13
 mul-priority : tie.Need-mul-priority
 mul-priority c = omega (arith, c .before .pre .priority (c .match .keys5))
 
--- src/read.rt:117:13
 slice-write-priority : tie.Need-slice-write-priority
 slice-write-priority c = omega (arith, c .before .pre .priority (c .match .keys5))
 
--- src/read.rt:120:13
 mul-time : tie.Need-mul-time
 mul-time c = omega (arith, c .before .pre .time (c .match .keys6))
 
--- src/read.rt:120:13
 slice-write-time : tie.Need-slice-write-time
 slice-write-time c = omega (arith, c .before .pre .time (c .match .keys6))
 
--- src/read.rt:86:1
 same-length : tie.Need-same-length
 same-length c = search needs
 
--- src/read.rt:86:1
 returns : tie.Need-returns
 unfolding stored storedIf
 returns c = sym (ap (λ (key : ℕ). stored key (c .before .args .due .task) (c .before .args .due .row) (c .before .args .value) (lists (c .before))) (c .match .keys1))
 
--- src/read.rt:86:1
 same-length-2 : tie.Need-same-length-2
 same-length-2 c = search needs
 
--- src/read.rt:86:1
 returns-2 : tie.Need-returns-2
 unfolding stored storedIf
 returns-2 c = sym (ap (λ (key : ℕ). stored key (c .before .args .due .task) (c .before .args .due .row) (c .before .args .value) (lists (c .before))) (c .match .keys2))
 
--- src/read.rt:86:1
 same-length-3 : tie.Need-same-length-3
 same-length-3 c = search needs
 
--- src/read.rt:86:1
 returns-3 : tie.Need-returns-3
 unfolding stored storedIf
 returns-3 c = sym (ap (λ (key : ℕ). stored key (c .before .args .due .task) (c .before .args .due .row) (c .before .args .value) (lists (c .before))) (c .match .keys3))
 
--- src/read.rt:86:1
 same-length-4 : tie.Need-same-length-4
 same-length-4 c = search needs
 
--- src/read.rt:86:1
 returns-4 : tie.Need-returns-4
 unfolding stored storedIf
 returns-4 c = sym (ap (λ (key : ℕ). stored key (c .before .args .due .task) (c .before .args .due .row) (c .before .args .value) (lists (c .before))) (c .match .keys4))
 
--- src/read.rt:86:1
 same-length-5 : tie.Need-same-length-5
 same-length-5 c = search needs
 
--- src/read.rt:86:1
 returns-5 : tie.Need-returns-5
 unfolding stored storedIf
 returns-5 c = sym (ap (λ (key : ℕ). stored key (c .before .args .due .task) (c .before .args .due .row) (c .before .args .value) (lists (c .before))) (c .match .keys5))
 
--- src/read.rt:86:1
 same-length-6 : tie.Need-same-length-6
 same-length-6 c = search needs
 
--- src/read.rt:86:1
 returns-6 : tie.Need-returns-6
 unfolding stored storedIf
 returns-6 c = sym (ap (λ (key : ℕ). stored key (c .before .args .due .task) (c .before .args .due .row) (c .before .args .value) (lists (c .before))) (c .match .keys6))
 
--- src/read.rt:86:1
 returns-7 : tie.Need-returns-7
 unfolding stored storedIf
 returns-7 c = simp (ne-eqb _ _ (c .match .rest .1), ne-eqb _ _ (c .match .rest .0 .1), ne-eqb _ _ (c .match .rest .0 .0 .1), ne-eqb _ _ (c .match .rest .0 .0 .0 .1), ne-eqb _ _ (c .match .rest .0 .0 .0 .0 .1), ne-eqb _ _ (c .match .rest .0 .0 .0 .0 .0 .1))

@@ -1,202 +1,154 @@
-use Prim.Native.Nat.{ℕ, suc, _≤_}
+-- `planfile::words::append_word` meets its contract: the word of each key by its number.
+use Prim.Native.Nat.{ℕ}
 use mathlib.Core.Path.{_≡_, sym, _∙_, ap}
 use mathlib.Core.List.{List}
 use Rattle.text.specs.Text.{Written, appended}
 use Rattle.text.specs.TextLaws.{appended-none}
 use Rattle.planfile.specs.Words.{words, word}
+use Rattle.planfile.specs.DraftLaws.{none-below}
 use Rattle.planfile.specs.LineLaws.{no-word}
-use native.Mathlib.Omega.{arith}
 use borrow.Author.Needs.{needs}
 use Rattle.planfile.proofs.words.append_word.Statement.{statement}
 use Rattle.planfile.proofs.words.append_word.Tie as tie
-use Rattle.planfile.proofs.words.append_word.Reads as reads
-use Rattle.planfile.proofs.words.append_word.Lts as lts
-use Rattle.text.proofs.append.Reads as append-reads
 
 -- What is appended for the number of a key is appended for the key.
 named : (l : List ℕ) (at : ℕ) {key k : ℕ} {w : Written} → key ≡ k → w ≡ appended (word k) l at → w ≡ appended (word key) l at
 named l at e f = rw e f
 
--- A number that is none of the first is past them.
-past : (k : ℕ) {key : ℕ} → (key ≡ k → ⊥) → k ≤ key → suc k ≤ key
-past k n h = omega arith
-
--- src/words.rt:14:39
 slice-aggregate-append : tie.Need-slice-aggregate-append
 slice-aggregate-append c = search needs
 
--- src/words.rt:14:23
 append-requires : tie.Need-append-requires
 append-requires c κs = search needs
 
--- src/words.rt:15:45
 slice-aggregate-append-2 : tie.Need-slice-aggregate-append-2
 slice-aggregate-append-2 c = search needs
 
--- src/words.rt:15:29
 append-requires-2 : tie.Need-append-requires-2
 append-requires-2 c κs = search needs
 
--- src/words.rt:16:40
 slice-aggregate-append-3 : tie.Need-slice-aggregate-append-3
 slice-aggregate-append-3 c = search needs
 
--- src/words.rt:16:24
 append-requires-3 : tie.Need-append-requires-3
 append-requires-3 c κs = search needs
 
--- src/words.rt:17:39
 slice-aggregate-append-4 : tie.Need-slice-aggregate-append-4
 slice-aggregate-append-4 c = search needs
 
--- src/words.rt:17:23
 append-requires-4 : tie.Need-append-requires-4
 append-requires-4 c κs = search needs
 
--- src/words.rt:18:41
 slice-aggregate-append-5 : tie.Need-slice-aggregate-append-5
 slice-aggregate-append-5 c = search needs
 
--- src/words.rt:18:25
 append-requires-5 : tie.Need-append-requires-5
 append-requires-5 c κs = search needs
 
--- src/words.rt:19:43
 slice-aggregate-append-6 : tie.Need-slice-aggregate-append-6
 slice-aggregate-append-6 c = search needs
 
--- src/words.rt:19:27
 append-requires-6 : tie.Need-append-requires-6
 append-requires-6 c κs = search needs
 
--- src/words.rt:20:40
 slice-aggregate-append-7 : tie.Need-slice-aggregate-append-7
 slice-aggregate-append-7 c = search needs
 
--- src/words.rt:20:24
 append-requires-7 : tie.Need-append-requires-7
 append-requires-7 c κs = search needs
 
--- src/words.rt:21:44
 slice-aggregate-append-8 : tie.Need-slice-aggregate-append-8
 slice-aggregate-append-8 c = search needs
 
--- src/words.rt:21:28
 append-requires-8 : tie.Need-append-requires-8
 append-requires-8 c κs = search needs
 
--- src/words.rt:22:43
 slice-aggregate-append-9 : tie.Need-slice-aggregate-append-9
 slice-aggregate-append-9 c = search needs
 
--- src/words.rt:22:27
 append-requires-9 : tie.Need-append-requires-9
 append-requires-9 c κs = search needs
 
--- src/words.rt:23:39
 slice-aggregate-append-10 : tie.Need-slice-aggregate-append-10
 slice-aggregate-append-10 c = search needs
 
--- src/words.rt:23:23
 append-requires-10 : tie.Need-append-requires-10
 append-requires-10 c κs = search needs
 
--- src/words.rt:10:1
 same-length : tie.Need-same-length
 same-length c = search needs
 
--- src/words.rt:10:1
 returns : tie.Need-returns
 unfolding word words
 returns c = named _ _ (c .before .before .before .before .before .match .keys1) (c .before .before .append .ensures)
 
--- src/words.rt:10:1
 same-length-2 : tie.Need-same-length-2
 same-length-2 c = search needs
 
--- src/words.rt:10:1
 returns-2 : tie.Need-returns-2
 unfolding word words
 returns-2 c = named _ _ (c .before .before .before .before .before .match .keys2) (c .before .before .append2 .ensures)
 
--- src/words.rt:10:1
 same-length-3 : tie.Need-same-length-3
 same-length-3 c = search needs
 
--- src/words.rt:10:1
 returns-3 : tie.Need-returns-3
 unfolding word words
 returns-3 c = named _ _ (c .before .before .before .before .before .match .keys3) (c .before .before .append3 .ensures)
 
--- src/words.rt:10:1
 same-length-4 : tie.Need-same-length-4
 same-length-4 c = search needs
 
--- src/words.rt:10:1
 returns-4 : tie.Need-returns-4
 unfolding word words
 returns-4 c = named _ _ (c .before .before .before .before .before .match .keys4) (c .before .before .append4 .ensures)
 
--- src/words.rt:10:1
 same-length-5 : tie.Need-same-length-5
 same-length-5 c = search needs
 
--- src/words.rt:10:1
 returns-5 : tie.Need-returns-5
 unfolding word words
 returns-5 c = named _ _ (c .before .before .before .before .before .match .keys5) (c .before .before .append5 .ensures)
 
--- src/words.rt:10:1
 same-length-6 : tie.Need-same-length-6
 same-length-6 c = search needs
 
--- src/words.rt:10:1
 returns-6 : tie.Need-returns-6
 unfolding word words
 returns-6 c = named _ _ (c .before .before .before .before .before .match .keys6) (c .before .before .append6 .ensures)
 
--- src/words.rt:10:1
 same-length-7 : tie.Need-same-length-7
 same-length-7 c = search needs
 
--- src/words.rt:10:1
 returns-7 : tie.Need-returns-7
 unfolding word words
 returns-7 c = named _ _ (c .before .before .before .before .before .match .keys7) (c .before .before .append7 .ensures)
 
--- src/words.rt:10:1
 same-length-8 : tie.Need-same-length-8
 same-length-8 c = search needs
 
--- src/words.rt:10:1
 returns-8 : tie.Need-returns-8
 unfolding word words
 returns-8 c = named _ _ (c .before .before .before .before .before .match .keys8) (c .before .before .append8 .ensures)
 
--- src/words.rt:10:1
 same-length-9 : tie.Need-same-length-9
 same-length-9 c = search needs
 
--- src/words.rt:10:1
 returns-9 : tie.Need-returns-9
 unfolding word words
 returns-9 c = named _ _ (c .before .before .before .before .before .match .keys9) (c .before .before .append9 .ensures)
 
--- src/words.rt:10:1
 same-length-10 : tie.Need-same-length-10
 same-length-10 c = search needs
 
--- src/words.rt:10:1
 returns-10 : tie.Need-returns-10
 unfolding word words
 returns-10 c = named _ _ (c .before .before .before .before .before .match .keys10) (c .before .before .append10 .ensures)
 
--- src/words.rt:10:1
 returns-11 : tie.Need-returns-11
 returns-11 c =
     let a = c .before .before .args in
-    let r = c .match .rest in
-    sym (ap (λ (w : List ℕ). appended w (a .out .now) (a .at)) (no-word (a .key) (past 9 (r .1) (past 8 (r .0 .1) (past 7 (r .0 .0 .1) (past 6 (r .0 .0 .0 .1) (past 5 (r .0 .0 .0 .0 .1) (past 4 (r .0 .0 .0 .0 .0 .1) (past 3 (r .0 .0 .0 .0 .0 .0 .1) (past 2 (r .0 .0 .0 .0 .0 .0 .0 .1) (past 1 (r .0 .0 .0 .0 .0 .0 .0 .0 .1) (past 0 (r .0 .0 .0 .0 .0 .0 .0 .0 .0 .1) (omega arith)))))))))))) ∙ appended-none _ _)
+    sym (ap (λ (w : List ℕ). appended w (a .out .now) (a .at)) (no-word (a .key) (none-below 10 (a .key) (c .match .rest))) ∙ appended-none _ _)
 
 pub append-word-spec : {M : Type 1} → statement M
 append-word-spec =
