@@ -84,7 +84,7 @@ pub record TickOutcome : Type 0 where
   pub released : List ℕ
 
 -- A tick is refused, and state and list stay.
-abbrev stays : Refusal → State → List ℕ → TickOutcome
+abbrev pub stays : Refusal → State → List ℕ → TickOutcome
 stays refusal σ released = record { outcome = refused refusal σ; released = released }
 
 -- Tick: 5, 14, 10, 7, 13, 11, 12; steps 1 to 5; the release list has 1 for each row that step 5 released and 0 for every

@@ -16,7 +16,7 @@ use Rattle.guards.specs.SeamLaws.{arrived-is, ticked-is}
 use Rattle.guards.specs.FitsLaws.{Fits, fits-of, fits-true}
 use Rattle.guards.specs.FitsKept.{fits-start, fits-arrived, fits-ticked, fits-same}
 use Rattle.guards.specs.Calls.{freshStart, arrive, isDone, TickOutcome, tick}
-use Rattle.guards.specs.CallsLaws.{with-same, task-first, Arriving, arrive-is, Ticking, tick-is}
+use Rattle.guards.specs.TakenLaws.{with-same, task-first, Arriving, arrive-is, Ticking, tick-is}
 
 -- A fresh start of a plan is taken: the state has the plan's rows at their start.
 pub fresh-start-is : (T : Table) (σ : State) → isPlan T ≡ true → freshStart T σ .state ≡ stateWith (rows T) start σ

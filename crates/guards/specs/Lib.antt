@@ -18,5 +18,6 @@ pub mod Seam
 pub mod SeamLaws
 pub mod FitsLaws
 pub mod FitsKept
-pub mod CallsLaws
+pub mod TakenLaws
 pub mod CallsFit
+pub mod CallsLaws

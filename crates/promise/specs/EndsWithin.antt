@@ -18,7 +18,7 @@ use Rattle.guards.specs.Moment.{Moment, momentOf, stateWith}
 use Rattle.guards.specs.Machine.{start, arrived}
 use Rattle.guards.specs.SeamLaws.{arrived-is}
 use Rattle.guards.specs.Calls.{freshStart}
-use Rattle.guards.specs.CallsLaws.{with-same, task-first, MayArrive, Arriving, arrive-is}
+use Rattle.guards.specs.TakenLaws.{with-same, task-first, MayArrive, Arriving, arrive-is}
 use Rattle.equations.specs.Safe.{Safe}
 use Rattle.promise.specs.Chain.{Chain}
 use Rattle.promise.specs.Runs.{Next}

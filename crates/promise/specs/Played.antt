@@ -13,7 +13,7 @@ use Rattle.guards.specs.Moment.{Moment, momentOf, stateWith}
 use Rattle.guards.specs.Machine.{start, arrived, ticked, beforeRelease, letGo, opened, worked}
 use Rattle.guards.specs.SeamLaws.{arrived-is, ticked-is}
 use Rattle.guards.specs.Calls.{freshStart, isDone, TickOutcome}
-use Rattle.guards.specs.CallsLaws.{with-same, task-first, MayArrive, Arriving, arrive-is, Ticking, tick-is}
+use Rattle.guards.specs.TakenLaws.{with-same, task-first, MayArrive, Arriving, arrive-is, Ticking, tick-is}
 use Rattle.guards.specs.CallsFit.{fresh-start-is}
 use Rattle.promise.specs.Promise.{Call, outcomeOf, isTaken, after, ticksBy, ticksTaken}
 use Rattle.promise.specs.Runs.{Next}

@@ -9,7 +9,7 @@ use Rattle.table.specs.Table.{Table}
 use Rattle.guards.specs.declared.state.State.{State}
 use Rattle.guards.specs.declared.state.Outcome.{Outcome}
 use Rattle.guards.specs.Calls.{TickOutcome}
-use Rattle.guards.specs.CallsLaws.{Arriving, arrive-is, Ticking, tick-is}
+use Rattle.guards.specs.TakenLaws.{Arriving, arrive-is, Ticking, tick-is}
 use Rattle.promise.specs.Promise.{Call, outcomeOf, isTaken, after, ticksBy, ticksTaken}
 
 -- A refused call changes nothing,

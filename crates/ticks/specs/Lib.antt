@@ -1,0 +1,11 @@
+pub mod Steps
+pub mod FoundLaws
+pub mod PlacedLaws
+pub mod Done
+pub mod TurnLaws
+pub mod BusyLaws
+pub mod SameLaws
+pub mod StepsLaws
+pub mod Ticking
+pub mod TickingLaws
+pub mod TableLaws

@@ -1,0 +1,93 @@
+-- What the parts of a tick read and do.
+use Prim.Native.Nat.{ℕ, suc, _+_, _≤_, _<_}
+use mathlib.Core.Bool.{Bool, false, cond, not, _&&_}
+use mathlib.Core.List.{List, []}
+use lib.Dec.{eqb}
+use lib.ListN.{length, getD}
+use Rattle.table.specs.Table.{at}
+use Rattle.table.specs.Plan.{Plan}
+use Rattle.table.specs.Refusals.{lastClock}
+use Rattle.guards.specs.declared.state.State.{State}
+use Rattle.guards.specs.declared.rows.Rows.{Rows}
+use Rattle.guards.specs.Moment.{Moment, momentOf}
+use Rattle.guards.specs.Machine.{opened}
+use Rattle.guards.specs.Rows.{planFrom}
+use Rattle.guards.specs.Calls.{isDone}
+
+-- The rows are few, each has its processor, and no processor has a number above 16.
+pub record Placed (rows : ℕ) (processor : List ℕ) : Type 0 where
+  pub few : rows ≤ 128
+  pub processor-long : rows ≤ length processor
+  pub processor-most : (r : ℕ) → r < rows → at processor r ≤ 16
+
+-- What steps 1 to 3 read: of each row its processor, and of each processor its running row and its done byte; and the
+-- numbers that they move on are small.
+pub record Working (rows : ℕ) (processor running done : List ℕ) (σ : State) : Type 0 where
+  pub few : rows ≤ 128
+  pub processor-long : rows ≤ length processor
+  pub processor-least : (r : ℕ) → r < rows → 1 ≤ at processor r
+  pub processor-most : (r : ℕ) → r < rows → at processor r ≤ length done
+  pub running-long : length done < length running
+  pub clock-most : σ .clock ≤ lastClock
+  pub completed-most : (r : ℕ) → r < rows → at (σ .completed) r ≤ lastClock + 1
+  pub used-most : (r : ℕ) → r < rows → at (σ .used) r ≤ 1000000
+
+-- Steps 1 to 3, given which rows run and which of them end.
+unfoldable pub ran : (ℕ → Bool) → (ℕ → Bool) → Moment → Moment
+ran runs ends m = record {
+  clock = m .clock + 1;
+  released = m .released;
+  completed = λ r. cond (runs r && ends r) (m .completed r + 1) (m .completed r);
+  used = λ r. cond (runs r) (cond (ends r) 0 (m .used r + 1)) (m .used r);
+  guard = m .guard;
+}
+
+-- Row r runs by the list of running rows, counted from 1, and ends by the done list.
+abbrev pub runsIn : List ℕ → List ℕ → ℕ → Bool
+runsIn processor running r = eqb (at running (at processor r)) (suc r)
+
+abbrev pub endsIn : List ℕ → List ℕ → ℕ → Bool
+endsIn processor done r = isDone done (at processor r)
+
+-- Step 4, given which rows are first and which have an idle processor.
+unfoldable pub openedWhere : (ℕ → Bool) → (ℕ → Bool) → Moment → Moment
+openedWhere first idle m = record {
+  clock = m .clock;
+  released = m .released;
+  completed = m .completed;
+  used = m .used;
+  guard = λ r. cond (not (first r) && idle r) (m .clock) (m .guard r);
+}
+
+-- Row r is first by the list of first rows, and its processor is idle by the list of busy processors.
+abbrev pub firstIn : List Bool → ℕ → Bool
+firstIn first r = getD first r false
+
+abbrev pub idleIn : List ℕ → List Bool → ℕ → Bool
+idleIn processor busy r = not (getD busy (at processor r) false)
+
+-- The numbers that step 5 moves on are small, and each row has its byte in the release list.
+pub record Releasing (R : Rows) (σ : State) (released : List ℕ) : Type 0 where
+  pub few : R .count ≤ 128
+  pub released-long : R .count ≤ length released
+  pub clock-most : σ .clock ≤ lastClock
+  pub released-most : (r : ℕ) → r < R .count → at (σ .released) r ≤ lastClock + 1
+  pub period-most : (r : ℕ) → r < R .count → at (R .period) r ≤ 1000000
+
+-- The plan as far as steps 4 and 5 read it.
+abbrev pub chains : Rows → List ℕ → Plan
+chains R processor = planFrom (R .count) (R .period) (R .first) processor [] []
+
+-- The rows before step 5.
+unfoldable pub readied : Rows → List ℕ → List ℕ → List ℕ → State → Moment
+readied R processor running done σ =
+    opened (chains R processor) (ran (runsIn processor running) (endsIn processor done) (momentOf σ))
+
+-- What all five steps read, and that the numbers that they move on are small.
+pub record Stepping (R : Rows) (processor running done : List ℕ) (σ : State) (released : List ℕ) : Type 0 where
+  pub working : Working (R .count) processor running done σ
+  pub placed : Placed (R .count) processor
+  pub clock-below : σ .clock < lastClock
+  pub released-most : (r : ℕ) → r < R .count → at (σ .released) r ≤ lastClock + 1
+  pub period-most : (r : ℕ) → r < R .count → at (R .period) r ≤ 1000000
+  pub released-long : R .count ≤ length released

@@ -1,0 +1,141 @@
+-- What the parts of a tick find and make is what the plan says.
+use Prim.Native.Nat.{ℕ, zero, suc, pred, _+_, _≤_, _<_}
+use mathlib.Core.Path.{_≡_, refl, sym, _∙_, ap}
+use mathlib.Core.Bool.{Bool, cond, _&&_, _||_}
+use mathlib.Core.List.{List, []}
+use native.Mathlib.Omega.{arith}
+use lib.Dec.{ltb, eqb}
+use lib.ListN.{length, getD}
+use Rattle.facts.specs.Tests.{lowest}
+use Rattle.facts.specs.Filled.{tab, filled}
+use Rattle.facts.specs.FilledLaws.{getD-tab, filled-ext, length-tab}
+use Rattle.table.specs.Table.{at}
+use Rattle.table.specs.Plan.{Plan}
+use Rattle.guards.specs.declared.state.State.{State}
+use Rattle.guards.specs.declared.rows.Rows.{Rows}
+use Rattle.guards.specs.Moment.{Moment, momentOf, stateWith}
+use Rattle.guards.specs.Running.{isOpen, best, running, runs}
+use Rattle.guards.specs.Machine.{worked, opened, beforeRelease, due, letGo, ticked}
+use Rattle.guards.specs.Rows.{planFrom}
+use Rattle.guards.specs.Calls.{isDone, wrongDone, usedUp}
+use Rattle.guards.specs.StateLaws.{Sizes}
+use Rattle.ticks.specs.Done.{wrongHere, upHere, Timely}
+use Rattle.ticks.specs.Steps.{Placed, Working, Stepping, chains, readied, ran, runsIn, endsIn}
+use Rattle.ticks.specs.Ticking.{Ready, Going}
+use Rattle.ticks.specs.FoundLaws.{best-ext, best-most}
+use Rattle.ticks.specs.SameLaws.{Same, Chained, with-same, opened-same, due-same, let-go-same}
+
+-- Searches by tests that agree find the same.
+pub lowest-ext : (n : ℕ) {f g : ℕ → Bool} → ((k : ℕ) → k < n → f k ≡ g k) → lowest n f ≡ lowest n g
+unfolding lowest
+lowest-ext zero h = refl
+lowest-ext (suc n) {f} {g} h =
+    let a : lowest n f ≡ lowest n g = lowest-ext n (λ k l. h k (omega arith)) in
+    let b : f n ≡ g n = h n (omega arith) in
+    rw (a, b)
+
+-- The list of running rows.
+module _ (R : Rows) (processor priority time : List ℕ) (σ : State) {list : List ℕ} (e : list ≡ tab (running (planFrom (R .count) [] [] processor priority []) (momentOf σ)) 17) where
+  abbrev plan : Plan
+  plan = planFrom (R .count) (R .period) (R .first) processor priority time
+
+  pub list-long : length list ≡ 17
+  list-long = ap length e ∙ length-tab _ 17
+
+  running-here : (x : ℕ) → x ≤ 16 → at list x ≡ running plan (momentOf σ) x
+  unfolding running
+  running-here x l =
+      ap (λ (k : List ℕ). at k x) e ∙ getD-tab _ 17 x 0 (omega arith)
+      ∙ best-ext _ plan (λ r. refl) (λ r. refl) (isOpen (momentOf σ)) (isOpen (momentOf σ)) x (R .count) (λ r b. refl)
+
+  pub wrong-lowest :
+      (n : ℕ) (done : List ℕ) → n ≤ 16
+      → lowest n (λ i. wrongHere (at done i) (at list (suc i))) ≡ lowest n (wrongDone plan (momentOf σ) done)
+  unfolding wrongHere wrongDone
+  wrong-lowest n done l = lowest-ext n (λ i b. rw (running-here (suc i) (omega arith)))
+
+  pub up-lowest :
+      (n : ℕ) (done : List ℕ) → n ≤ 16
+      → lowest n (λ i. upHere (σ .used) time (at done i) (at list (suc i))) ≡ lowest n (usedUp plan (momentOf σ) done)
+  unfolding upHere usedUp momentOf
+  up-lowest n done l = lowest-ext n (λ i b. rw (running-here (suc i) (omega arith)))
+
+  -- A row that runs is one of the plan's.
+  module _ {processors : ℕ} (ready : Ready R processors processor priority time σ) (z : Sizes σ) where
+    pub timely : (x : ℕ) → x ≤ 16 → Timely (at list x) (σ .used) time
+    unfolding running momentOf
+    timely x l =
+        let b : at list x ≤ R .count = rw (running-here x l) (best-most plan (isOpen (momentOf σ)) x (R .count)) in
+        record {
+          used-long = omega (arith, ready .few, z .used);
+          time-long = omega (arith, ready .time-long);
+          used-most = λ p. omega (arith, ready .bounded .used (pred (at list x)) (before (at list x) p b), ready .time-most (pred (at list x)) (before (at list x) p b));
+        }
+      where
+        before : (i : ℕ) → 0 < i → i ≤ R .count → pred i < R .count
+        before zero a b = absurd (omega arith)
+        before (suc i) a b = omega arith
+
+    -- What the steps ask.
+    pub stepping :
+        (done released : List ℕ) → Going R processors processor priority time σ done released
+        → Stepping R processor list done σ released
+    unfolding momentOf
+    stepping done released k = record {
+      working = record {
+        few = ready .few;
+        processor-long = ready .processor-long;
+        processor-least = ready .processor-least;
+        processor-most = λ r l. omega (arith, ready .processor-most r l, k .done-long);
+        running-long = omega (arith, list-long, k .done-long, ready .processors-most);
+        clock-most = ready .bounded .clock;
+        completed-most = λ r l. omega (arith, ready .bounded .completed r l, ready .bounded .released r l, ready .bounded .clock);
+        used-most = λ r l. omega (arith, ready .bounded .used r l, ready .time-most r l);
+      };
+      placed = record {
+        few = ready .few;
+        processor-long = ready .processor-long;
+        processor-most = λ r l. omega (arith, ready .processor-most r l, ready .processors-most);
+      };
+      clock-below = k .clock-below;
+      released-most = λ r l. omega (arith, ready .bounded .released r l, ready .bounded .clock);
+      period-most = ready .period-most;
+      released-long = k .released-long;
+    }
+
+    -- Steps 1 to 3 by the list are those of the plan,
+    worked-is :
+        (done : List ℕ)
+        → Same (R .count) (ran (runsIn processor list) (endsIn processor done) (momentOf σ)) (worked plan (momentOf σ) (isDone done))
+    unfolding ran worked runs
+    worked-is done = record {
+      clock = refl;
+      released = λ r l. refl;
+      completed = λ r l. rw (here r l);
+      used = λ r l. rw (here r l);
+      guard = λ r l. refl;
+    }
+      where
+        here : (r : ℕ) → r < R .count → at list (at processor r) ≡ running plan (momentOf σ) (at processor r)
+        here r l = running-here (at processor r) (omega (arith, ready .processor-most r l, ready .processors-most))
+
+    chained : Chained (R .count) (chains R processor) plan
+    chained = record { left = refl; right = refl; period = λ r l. refl; first = λ r l. refl; processor = λ r l. refl }
+
+    readied-is : (done : List ℕ) → Same (R .count) (readied R processor list done σ) (beforeRelease plan (momentOf σ) (isDone done))
+    unfolding readied beforeRelease
+    readied-is done = opened-same (worked-is done) chained
+
+    -- and so are all five.
+    pub ticked-made :
+        (done : List ℕ)
+        → stateWith (R .count) (letGo (chains R processor) (readied R processor list done σ)) σ
+        ≡ stateWith (R .count) (ticked plan (momentOf σ) (isDone done)) σ
+    unfolding ticked
+    ticked-made done = with-same (let-go-same (readied-is done) chained) σ
+
+    pub bytes-ticked :
+        (done released : List ℕ)
+        → filled (λ r. cond (due (chains R processor) (readied R processor list done σ) r) 1 0) (R .count) released
+        ≡ filled (λ r. cond (due plan (beforeRelease plan (momentOf σ) (isDone done)) r) 1 0) (R .count) released
+    bytes-ticked done released = filled-ext _ _ (R .count) released (λ r l. rw (due-same (readied-is done) chained r l))

@@ -1,0 +1,93 @@
+// Which row runs on a processor.
+
+use guards::rows::rows_of;
+use guards::state::State;
+ghost use mathlib.Core.Path.{_≡_};
+ghost use mathlib.Core.Bool.{cond};
+ghost use mathlib.Core.List.{[]};
+ghost use Prim.Native.Nat.{_≤_, _<_};
+ghost use lib.ListN.{length};
+ghost use Rattle.facts.specs.Filled.{tab};
+ghost use Rattle.table.specs.Table.{tableOf};
+ghost use Rattle.guards.specs.Moment.{momentOf};
+ghost use Rattle.guards.specs.Running.{better, running};
+ghost use Rattle.guards.specs.Rows.{planFrom};
+ghost use Rattle.guards.specs.Questions.{runningRow};
+ghost use Rattle.ticks.specs.Steps.{Placed};
+
+// The highest number that a processor may have.
+const MOST_PROCESSORS: u64 = 16;
+
+// The row to run, counted from 1, among the best so far and one candidate more: the more urgent, and of equals the best so
+// far.
+fn next_best(candidate: bool, best: usize, row: usize, priority: &[u64]) -> usize
+    requires { ⌜ (best ≤ row) × (row < length (now priority)) ⌝ }
+    ensures { λ r. ⌜ r ≡ cond candidate (better (planFrom 0 [] [] [] (now (priority .entry)) []) best row) best ⌝ }
+{
+    if !candidate {
+        return best;
+    }
+    if best == 0 {
+        return row + 1;
+    }
+    if priority[best - 1] < priority[row] {
+        return row + 1;
+    }
+    best
+}
+
+// For each processor number up to 16 the row that runs, counted from 1, and 0 where none does.
+pub(crate) fn running_rows(
+    rows: usize,
+    processor: &[u64],
+    priority: &[u64],
+    state: State,
+) -> [usize; 17]
+    requires { ⌜ Placed rows (now processor) × (rows ≤ length (now priority)) ⌝ }
+    ensures { λ r. ⌜ r ≡ tab (running (planFrom rows [] [] (now (processor .entry)) (now (priority .entry)) []) (momentOf state)) 17 ⌝ }
+{
+    let mut found = [0usize; 17];
+    let mut row: usize = 0;
+    while row < rows {
+        let on = processor[row] as usize;
+        let open = state.completed[row] < state.released[row];
+        found[on] = next_best(open, found[on], row, priority);
+        row += 1;
+    }
+    found
+}
+
+// The row that runs on a processor, counted from 1; 0 where none does, and for a table that is no plan.
+pub fn running_row(
+    processors: u64,
+    tasks: u64,
+    period: &[u64],
+    deadline: &[u64],
+    steps: &[u64],
+    processor: &[u64],
+    priority: &[u64],
+    time: &[u64],
+    state: State,
+    on: u64,
+) -> u64
+    ensures { λ r. ⌜ r ≡ runningRow (tableOf processors tasks (now (period .entry)) (now (deadline .entry)) (now (steps .entry)) (now (processor .entry)) (now (priority .entry)) (now (time .entry))) state on ⌝ }
+{
+    let rows = rows_of(
+        processors,
+        tasks,
+        period,
+        deadline,
+        steps,
+        processor,
+        priority,
+        time,
+    );
+    if rows.count == 0 {
+        return 0;
+    }
+    if MOST_PROCESSORS < on {
+        return 0;
+    }
+    let found = running_rows(rows.count, processor, priority, state);
+    found[on as usize] as u64
+}
