@@ -59,6 +59,15 @@ pub record Lists : Type 0 where
   pub chain : List ℕ
   pub slack : List ℤ
 
+abbrev pub listsOf : List ℕ → List ℕ → List ℕ → List ℕ → List ℤ → Lists
+listsOf busy instances bound chain slack = record {
+  busy = busy;
+  instances = instances;
+  bound = bound;
+  chain = chain;
+  slack = slack;
+}
+
 -- What the first short list needs, row lists before task lists; 0 where none is short.
 unfoldable pub needed : Table → Lists → ℕ
 needed T l =

@@ -5,9 +5,14 @@ use Prim.Native.Nat.{ℕ, zero, suc, _+_, _*_, _-_, _/_, _≤_, _<_}
 use native.Mathlib.Nat.{mul-le-mul-right, mul-le-mul-left}
 use native.Mathlib.Omega.{arith, both-ways}
 use native.Mathlib.Decide.{decLe}
+use mathlib.Core.List.{List}
+use lib.ListN.{length, getD, set}
+use Rattle.facts.specs.Filled.{filled}
+use Rattle.facts.specs.FilledLaws.{getD-rest, filled-more, filled-keep}
 use Rattle.facts.specs.Tests.{all}
 use Rattle.facts.specs.Rounding.{ceil}
 use Rattle.facts.specs.RoundingLaws.{ceil-le, le-ceil, ceil-tight, ceil-count}
+use Rattle.facts.specs.Least.{Least, Unanswered}
 use Rattle.facts.specs.LeastLaws.{Below}
 
 -- The same test at each number below n is the same whole.
@@ -51,3 +56,29 @@ ceil-on {s} {t} {p} pp l = go (decLe t (ceil s p * p))
 
         gap : (ceil t p - ceil s p) * p + ceil s p * p ≡ ceil t p * p
         gap = sym (native.Mathlib.Nat.add-mul (ceil t p - ceil s p) (ceil s p) p) ∙ ap (λ (k : ℕ). k * p) (omega (arith, more))
+
+-- Functions that agree have the same least answers, and the same limits without one.
+pub least-ext : {f g : ℕ → ℕ} {L : ℕ} → ((t : ℕ) → f t ≡ g t) → Least f L → Least g L
+least-ext {L = L} e l = record {
+  pos = l .pos;
+  answer = omega (arith, e L, l .answer);
+  least = λ t p h. l .least t p (omega (arith, e t));
+}
+
+pub unanswered-ext : {f g : ℕ → ℕ} {limit : ℕ} → ((t : ℕ) → f t ≡ g t) → Unanswered f limit → Unanswered g limit
+unanswered-ext e n t p h = n t p (omega (arith, e t))
+
+-- One more entry is stored, made from what stood there before, which is what stood there at first.
+module _ (f : ℕ → ℕ) (i : ℕ) (l l′ : List ℕ) (e : l′ ≡ filled f i l) where
+  pub still-there : getD l′ i 0 ≡ getD l i 0
+  still-there = rw e (getD-rest f i i 0 l (omega arith))
+
+  pub filled-turn : (v : ℕ) → i < length l → (getD l′ i 0 ≡ getD l i 0 → v ≡ f i) → set l′ i v ≡ filled f (i + 1) l
+  filled-turn v h k = let v-is : v ≡ f i = k still-there in rw (v-is, e) (filled-more f i (f i) l h refl)
+
+  pub filled-stays : i < length l → f i ≡ getD l i 0 → l′ ≡ filled f (i + 1) l
+  filled-stays h k = e ∙ filled-keep f i 0 l h k
+
+-- A list filled up to m is filled up to n, where they are the same.
+pub filled-to : {A : Type 0} (f : ℕ → A) (m n : ℕ) (l l′ : List A) → m ≡ n → l′ ≡ filled f m l → l′ ≡ filled f n l
+filled-to f m n l l′ e h = rw e at h

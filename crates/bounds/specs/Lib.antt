@@ -4,3 +4,14 @@ pub mod BoundsLaws
 pub mod SlackLaws
 pub mod NoHarder
 pub mod NoHarderLaws
+pub mod Collected
+pub mod CollectedLaws
+pub mod Climb
+pub mod ClimbLaws
+pub mod Level
+pub mod LevelLaws
+pub mod Chains
+pub mod ChainsLaws
+pub mod Rows
+pub mod RowsLaws
+pub mod BoundingLaws

@@ -8,6 +8,9 @@ use borrow.Author.Tests.{lt-ltb, le-ltb, le-leb, lt-leb, leb-true}
 use lib.Dec.{T, leb, ltb, le→leb}
 use lib.IntN.{ℤ, pos, negsuc, _-ℤ_}
 use lib.Signed.{mag, leZ, ltZ, _≤ℤ_}
+use mir.Syntax.{w64}
+use mir.Val.{toZ, ofZ}
+use mir.ValLaws.{toZ-ofZ}
 
 -- The difference is not negative,
 pub less-pos : (a b : ℕ) → b ≤ a → pos a -ℤ pos b ≡ pos (a - b)
@@ -50,3 +53,7 @@ mag-less a b {m} h l = go (decLe b a)
     go : Dec (b ≤ a) → mag (pos a -ℤ pos b) < m
     go (yes p) = rw (less-pos a b p) (omega arith)
     go (no p) = rw (less-neg a b (omega arith)) (omega arith)
+
+-- What a signed word holds of a small difference is the difference.
+pub word-less : (a b : ℕ) (z : ℤ) → a ≤ 160000000 → b ≤ 160000000 → z ≡ pos a -ℤ pos b → toZ w64 (ofZ w64 z) ≡ z
+word-less a b z h l e = toZ-ofZ w64 z (record { sfits = rw e (mag-less a b (omega arith) (omega arith)) })

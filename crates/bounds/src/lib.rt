@@ -1,11 +1,123 @@
 // The bounds of a plan (document 01, "Bounds"): busy length, instances and bound of each row, bound and slack of each
 // chain, and whether the plan is accepted. `bound` is all that is public.
 
+mod chains;
+mod ends;
+mod level;
+mod rows;
+
+use crate::chains::fill_chains;
+use crate::level::zeros;
+use crate::rows::fill_rows;
+use crate::rows::row_numbers;
+use table::plan::View;
+use table::plan::view_rows;
 use table::refusal::Refusal;
+ghost use mathlib.Core.Path.{_≡_};
+ghost use Prim.Native.Nat.{ℕ, _≤_};
+ghost use lib.ListN.{length};
+ghost use Rattle.table.specs.Table.{tableOf};
+ghost use Rattle.bounds.specs.Bounds.{Bounding, listsOf};
+ghost use Rattle.bounds.specs.Rows.{Viewing};
 
 // What the bounds answer.
 pub enum Bounded {
     // 1 if the plan is accepted, else 0: every slack is zero or more, or one is not.
     Accepted(u64),
     Refused(Refusal),
+}
+
+// How many rows the table's plan has, each row's period in `periods`; 0 if the table is no plan.
+fn rows_of(
+    processors: u64,
+    tasks: u64,
+    period: &[u64],
+    deadline: &[u64],
+    steps: &[u64],
+    processor: &[u64],
+    priority: &[u64],
+    time: &[u64],
+    periods: &mut [u64],
+) -> u64
+    requires { ⌜ length (now periods) ≡ 128 ⌝ }
+    ensures { λ r. ⌜ Viewing (tableOf processors tasks (now (period .entry)) (now (deadline .entry)) (now (steps .entry)) (now (processor .entry)) (now (priority .entry)) (now (time .entry))) (now (periods .entry)) (now (periods .exit)) r ⌝ }
+{
+    let mut firsts = [false; 128];
+    let viewed = view_rows(
+        processors,
+        tasks,
+        period,
+        deadline,
+        steps,
+        processor,
+        priority,
+        time,
+        periods,
+        &mut firsts,
+    );
+    let View::Rows(rows) = viewed else {
+        return 0;
+    };
+    rows
+}
+
+// The bounds of the plan in the first eight lists and counts: fills busy length, instances and bound for each row, bound
+// and slack for each task. A refusal leaves the lists as they are.
+pub fn bound(
+    processors: u64,
+    tasks: u64,
+    period: &[u64],
+    deadline: &[u64],
+    steps: &[u64],
+    processor: &[u64],
+    priority: &[u64],
+    time: &[u64],
+    busy: &mut [u64],
+    instances: &mut [u64],
+    bounds: &mut [u64],
+    chains: &mut [u64],
+    slack: &mut [i64],
+) -> Bounded
+    ensures { λ r. ⌜ Bounding (tableOf processors tasks (now (period .entry)) (now (deadline .entry)) (now (steps .entry)) (now (processor .entry)) (now (priority .entry)) (now (time .entry))) (listsOf (now (busy .entry)) (now (instances .entry)) (now (bounds .entry)) (now (chains .entry)) (now (slack .entry))) (listsOf (now (busy .exit)) (now (instances .exit)) (now (bounds .exit)) (now (chains .exit)) (now (slack .exit))) r ⌝ }
+{
+    let mut periods = zeros();
+    let rows = rows_of(
+        processors,
+        tasks,
+        period,
+        deadline,
+        steps,
+        processor,
+        priority,
+        time,
+        &mut periods,
+    );
+    if rows == 0 {
+        return Bounded::Refused(Refusal::NotAPlan);
+    }
+    let count = rows as usize;
+    let chained = tasks as usize;
+    if busy.len() < count {
+        return Bounded::Refused(Refusal::TooShort(rows));
+    }
+    if instances.len() < count {
+        return Bounded::Refused(Refusal::TooShort(rows));
+    }
+    if bounds.len() < count {
+        return Bounded::Refused(Refusal::TooShort(rows));
+    }
+    if chains.len() < chained {
+        return Bounded::Refused(Refusal::TooShort(tasks));
+    }
+    if slack.len() < chained {
+        return Bounded::Refused(Refusal::TooShort(tasks));
+    }
+    let numbers = row_numbers(count, &periods, processor, priority, time);
+    let done = numbers.done;
+    if done < count {
+        return Bounded::Refused(Refusal::NoBusyLength(done as u64 + 1));
+    }
+    fill_rows(count, numbers, busy, instances, bounds);
+    let accepted = fill_chains(chained, period, deadline, steps, numbers, chains, slack);
+    Bounded::Accepted(accepted)
 }

@@ -1,5 +1,5 @@
 -- Laws of the equations of one row: its numbers exist where D does, are the only ones, and grow with what is asked.
-use mathlib.Core.Path.{_≡_, refl, ap, sym, _∙_}
+use mathlib.Core.Path.{_≡_, refl, ap, sym, _∙_, fun-ext}
 use Prim.Native.Nat.{ℕ, zero, suc, max, _+_, _*_, _-_, _≤_, _<_}
 use native.Mathlib.Nat.{mul-le-mul-right, mul-le-mul-left, mul-le-mul}
 use native.Mathlib.Omega.{arith, both-ways, by-contra}
@@ -67,6 +67,12 @@ module _ {q : Row} (ok : Proper q) where
       let same : work q (a .value) ≡ a .value = omega (arith, work-to q k (a .value), a .least .answer, ap (λ (j : ℕ). j * q .cost) own) in
       let whole : a .value ≡ D = both-ways (a .value) D (a .fits) (b .least (a .value) (a .least .pos) same) in
       rw whole at (a .least)
+
+-- The row's bound is at most its busy length.
+pub bound-within : {q : Row} → Proper q → {D M R : ℕ} → RowBounds q D M R → R ≤ D
+bound-within {q} ok {D} b =
+    let a : Answer (workTo q (b .bound .instance)) D = instance-answer ok (b .bound .instance) (b .busy) (omega (arith, b .bound .within, b .instances)) in
+    omega (arith, b .bound .reached, a .fits, least-unique (a .least) (b .bound .ends))
 
 -- Any two numbers of a row are equal.
 pub row-bounds-one : {q : Row} {D M R D′ M′ R′ : ℕ} → RowBounds q D M R → RowBounds q D′ M′ R′ → (D ≡ D′) × (M ≡ M′) × (R ≡ R′)
@@ -185,3 +191,19 @@ module _ {q q′ : Row} (ok : Proper q) (ok′ : Proper q′) (h : Less q q′) 
 
       lR : R ≤ R′
       lR = omega (arith, lC, b .bound .reached, c .bound .upper k (omega (arith, lM, b .bound .within)) (ans .value) (ans .least), mul-le-mul-left k (h .period))
+
+-- Rows with the same period and cost and the same work are the same.
+pub row-ext : {q q′ : Row} → q .period ≡ q′ .period → q .cost ≡ q′ .cost → ((t : ℕ) → work q t ≡ work q′ t) → q ≡ q′
+unfolding work
+row-ext {q} {q′} ep ec ew =
+    ap (λ (p : ℕ). row p (q .cost) (q .others)) ep
+    ∙ ap (λ (c : ℕ). row (q′ .period) c (q .others)) ec
+    ∙ ap (λ (o : ℕ → ℕ). row (q′ .period) (q′ .cost) o) (fun-ext each)
+  where
+    row : ℕ → ℕ → (ℕ → ℕ) → Row
+    row p c o = record { period = p; cost = c; others = o }
+
+    each : (t : ℕ) → q .others t ≡ q′ .others t
+    each t =
+        let own : ceil t (q .period) * q .cost ≡ ceil t (q′ .period) * q′ .cost = rw (ep, ec) in
+        omega (arith, ew t)

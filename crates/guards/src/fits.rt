@@ -2,6 +2,7 @@
 
 use crate::rows::Rows;
 use crate::rows::rows_of;
+use crate::state::LAST_CLOCK;
 use crate::state::State;
 ghost use mathlib.Core.Path.{_≡_};
 ghost use Prim.Native.Nat.{_≤_};
@@ -12,9 +13,6 @@ ghost use Rattle.guards.specs.Rows.{chainFits, countsFit};
 
 // At most so many rows have their place in the lists.
 const MOST_ROWS: usize = 128;
-
-// The clock of a run ends here.
-const LAST_CLOCK: u64 = 1000000000000;
 
 // Whether a row's instances and used ticks fit: completed ≤ released ≤ clock + 1, used < time, and used is 0 where
 // nothing is open.

@@ -5,6 +5,9 @@ use table::refusal::Refusal;
 ghost use mathlib.Core.Path.{_≡_};
 ghost use Rattle.guards.specs.Calls as calls;
 
+// The clock of a run ends here.
+pub const LAST_CLOCK: u64 = 1000000000000;
+
 pub struct State {
     pub clock: u64,
     pub released: [u64; 128],

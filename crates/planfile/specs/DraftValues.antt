@@ -15,7 +15,7 @@ use Rattle.table.specs.Table.{Table, at}
 use Rattle.planfile.specs.Draft.{Draft, blank, own, added, placed, advanced}
 use Rattle.planfile.specs.DraftLaws.{Shape}
 use Rattle.planfile.specs.PlanValues.{InRange}
-use Rattle.planfile.specs.PartLaws.{draftOf, due-there, count-next}
+use Rattle.planfile.specs.FrontLaws.{draftOf, due-there, count-next}
 
 pub record ValuesSoFar (d : Draft) : Type 0 where
   pub processors : processorsKey < d .key → inRange processorsKey 0 (d .table .processors) ≡ true

@@ -19,7 +19,7 @@ use Rattle.planfile.specs.LineTextLaws.{written-stands, written-rest}
 use Rattle.planfile.specs.LinesLaws.{lines-shape, lines-count}
 use Rattle.planfile.specs.SizeLaws.{value-takes, own-most, lines-bytes, whole-bytes}
 use Rattle.planfile.specs.PlanValues.{ValuesRight, values-right}
-use Rattle.planfile.specs.PartLaws.{draftOf, where-due, due-there, PartOf, part-blank}
+use Rattle.planfile.specs.FrontLaws.{draftOf, where-due, due-there, PartOf, part-blank}
 use Rattle.planfile.specs.NextLineLaws.{ahead, asked-part, value-fits, value-few, part-next}
 
 -- Behind the last line there are as many lines as the table has,

@@ -9,7 +9,7 @@ pub mod ValueLaws
 pub mod LineTextLaws
 pub mod VerdictsLaws
 pub mod PlanValues
-pub mod PartLaws
+pub mod FrontLaws
 pub mod DraftValues
 pub mod Trimmed
 pub mod TrimmedLaws
@@ -27,7 +27,7 @@ pub mod Due
 pub mod DueLaws
 pub mod Reader
 pub mod ReaderLaws
-pub mod OwnDraftLaws
+pub mod PartLaws
 pub mod Writer
 pub mod WriterLaws
 pub mod CallsLaws

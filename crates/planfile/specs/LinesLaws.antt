@@ -12,7 +12,7 @@ use Rattle.planfile.specs.Draft.{Draft, blank, advanced}
 use Rattle.planfile.specs.DraftLaws.{Shape, shape-blank, shape-next, linesSoFar, lines-next}
 use Rattle.planfile.specs.DraftValues.{ValuesSoFar, values-blank, values-next}
 use Rattle.planfile.specs.File.{linesFrom}
-use Rattle.planfile.specs.PartLaws.{PartOf, part-before, part-value}
+use Rattle.planfile.specs.FrontLaws.{PartOf, part-before, part-value}
 use Rattle.planfile.specs.Verdicts.{LineStands, RightLines}
 use Rattle.planfile.specs.Verdicts.RightLines.{none, more}
 

@@ -15,7 +15,7 @@ use Rattle.planfile.specs.File.{fileOf}
 use Rattle.planfile.specs.Reading.{Lists, laidOver}
 use Rattle.planfile.specs.Answered.{tableIn}
 use Rattle.planfile.specs.PlanValues.{InRange, values-right, is-plan}
-use Rattle.planfile.specs.PartLaws.{draftOf, PartOf, Front}
+use Rattle.planfile.specs.FrontLaws.{draftOf, PartOf, Front}
 use Rattle.planfile.specs.NextLineLaws.{front-at}
 use Rattle.planfile.specs.RoundTrip.{same-tasks, same-rows, whole-part, trimmed-file}
 use Rattle.planfile.specs.TrimmedLaws.{Full, full-of}

@@ -19,7 +19,7 @@ use Rattle.planfile.specs.DraftLaws.{Shape, EachKey, by-key, byKey}
 use Rattle.planfile.specs.File.{valueFor}
 use Rattle.planfile.specs.Reading.{tooMany}
 use Rattle.planfile.specs.PlanValues.{ValuesRight}
-use Rattle.planfile.specs.PartLaws.{draftOf, where-due, PartOf, Front, front-more, count-next}
+use Rattle.planfile.specs.FrontLaws.{draftOf, where-due, PartOf, Front, front-more, count-next}
 
 -- The next number is in the range of `task`.
 same-number : (n : ℕ) → inRange taskKey n n ≡ true

@@ -1,181 +1,332 @@
--- A draft that is a table as far as it goes: from each line to the one before, and to the next.
-use Prim.Native.Nat.{ℕ, suc, _+_, _≤_, _<_}
-use mathlib.Core.Path.{_≡_, refl, sym, _∙_, ap, subst}
-use mathlib.Core.Bool.{Bool, true, false, cond}
+-- A draft of a plan's own table: its next value is right, its lines and bytes are counted, and all of its lines fit.
+use Prim.Native.Nat.{ℕ, zero, suc, _+_, _*_, _^_, _≤_, _<_}
+use mathlib.Core.Path.{_≡_, refl, sym, _∙_, ap}
+use mathlib.Core.Bool.{true}
 use mathlib.Core.List.{List, [], _∷_, _++_}
 use native.Mathlib.Omega.{arith, by-contra}
-use native.Mathlib.Decide.{ℕ-discrete}
-use native.Mathlib.Numerals.{add-one}
-use borrow.Author.Tests.{eq-eqb, ne-eqb}
-use lib.Dec.{eqb, ltb}
+use borrow.Author.Tests.{le-ltb}
 use lib.ListN.{length, getD, take, length-append}
-use lib.Seq.{take-take, take-suc, take-append-seam, take-length, getD-take, getD-append-seam}
+use lib.Seq.{take-suc, getD-take}
+use Rattle.facts.specs.SumsLaws.{sum-ext}
 use Rattle.table.specs.Keys.{planKey, processorsKey, tasksKey, taskKey, periodKey, deadlineKey, stepsKey, processorKey, priorityKey, timeKey}
 use Rattle.table.specs.Ranges.{inRange, rangeOf, ranges}
-use Rattle.table.specs.RangesLaws.{within-of}
-use Rattle.table.specs.Table.{Table, at}
+use Rattle.table.specs.RangesLaws.{in-range-of, within-of}
+use Rattle.table.specs.Table.{Table, at, firstRow, rows}
+use Rattle.table.specs.TableLaws.{Checked}
+use Rattle.table.specs.PlanLaws.{first-row-suc, first-row-mono}
+use Rattle.text.specs.TextLaws.{length-line, decimal-few}
 use Rattle.planfile.specs.Draft.{Draft, noKey, blank, rowsAsked, own, added, placed, following, advanced}
-use Rattle.planfile.specs.DraftLaws.{EachKey, by-key, none-in-range}
-use Rattle.planfile.specs.File.{valueFor}
+use Rattle.planfile.specs.DraftLaws.{Shape, Accepted, EachKey, by-key, at-key, shape-blank, shape-next, none-in-range, own-most, after-row, byKey, linesSoFar, lines-next}
+use Rattle.planfile.specs.File.{valueFor, linesFrom, linesOf, fileOf}
+use Rattle.planfile.specs.Reading.{tooMany}
+use Rattle.planfile.specs.Words.{words, word, lineOf}
 
--- The draft of a key and a table.
-abbrev pub draftOf : ℕ → Table → Draft
-draftOf key T = record { key = key; table = T }
+-- Counts and steps are those of T as far as they go while this key is due.
+pub record Same (T : Table) (key processors tasks : ℕ) (steps : List ℕ) : Type 0 where
+  pub processors-is : processorsKey < key → processors ≡ T .processors
+  pub tasks-is : tasksKey < key → tasks ≡ T .tasks
+  pub task-most : length steps ≤ T .tasks
+  pub steps-are : steps ≡ take (length steps) (T .steps)
 
--- What holds where this key is due.
-pub where-due : (Q : Draft → Type 0) (d : Draft) (key : ℕ) → d .key ≡ key → Q (draftOf key (d .table)) → Q d
-where-due Q d key e q = subst (λ (k : ℕ). Q (draftOf k (d .table))) (sym e) q
-
--- And the other way round.
-pub due-there : (Q : Draft → Type 0) (d : Draft) (key : ℕ) → d .key ≡ key → Q d → Q (draftOf key (d .table))
-due-there Q d key e q = subst (λ (k : ℕ). Q (draftOf k (d .table))) e q
-
--- The list l is the front of the list m.
-abbrev pub Front : List ℕ → List ℕ → Type 0
-Front l m = take (length l) m ≡ l
-
-length-next : (l : List ℕ) (v : ℕ) → length (l ++ (v ∷ [])) ≡ suc (length l)
-length-next l v = length-append l (v ∷ []) ∙ add-one (length l)
-
--- What is added to a front is the list's next entry.
-pub front-last : (v : ℕ) (l m : List ℕ) → Front (l ++ (v ∷ [])) m → at m (length l) ≡ v
-front-last v l m e =
-    sym (getD-take (length (l ++ (v ∷ []))) m (length l) 0 (omega (arith, length-next l v)))
-    ∙ ap (λ (t : List ℕ). getD t (length l) 0) e ∙ getD-append-seam l v [] 0
-
-front-less : (b : Bool) (v : ℕ) (l m : List ℕ) → Front (added b v l) m → Front l m
-unfolding added
-front-less false v l m e = e
-front-less true v l m e =
-    sym (take-take (length l) (length (l ++ (v ∷ []))) m (omega (arith, length-next l v)))
-    ∙ ap (λ (t : List ℕ). take (length l) t) e ∙ take-append-seam l (v ∷ [])
-
-pub front-more :
-    (b : Bool) (v : ℕ) (l m : List ℕ) → (b ≡ true → (v ≡ at m (length l)) × (length l < length m)) → Front l m
-    → Front (added b v l) m
-unfolding added
-front-more false v l m h e = e
-front-more true v l m h e =
-    let w = h refl in
-    ap (λ (n : ℕ). take n m) (length-next l v) ∙ take-suc m (length l) 0 (w .1)
-    ∙ ap (λ (t : List ℕ). t ++ (at m (length l) ∷ [])) e ∙ ap (λ (x : ℕ). l ++ (x ∷ [])) (sym (w .0))
-
--- The draft is the table as far as its lines go: the counts are the table's once their lines are there, and each list is the
--- front of the table's.
+-- A draft of the table T.
 pub record PartOf (T : Table) (d : Draft) : Type 0 where
-  pub processors : processorsKey < d .key → d .table .processors ≡ T .processors
-  pub tasks : tasksKey < d .key → d .table .tasks ≡ T .tasks
-  pub period : Front (d .table .period) (T .period)
-  pub deadline : Front (d .table .deadline) (T .deadline)
-  pub steps : Front (d .table .steps) (T .steps)
-  pub processor : Front (d .table .processor) (T .processor)
-  pub priority : Front (d .table .priority) (T .priority)
-  pub time : Front (d .table .time) (T .time)
+  pub shape : Shape d
+  pub same : Same T (d .key) (d .table .processors) (d .table .tasks) (d .table .steps)
 
 pub part-blank : (T : Table) → PartOf T blank
 unfolding blank
 part-blank T = record {
-  processors = λ h. absurd (omega arith);
-  tasks = λ h. absurd (omega arith);
-  period = refl;
-  deadline = refl;
-  steps = refl;
-  processor = refl;
-  priority = refl;
-  time = refl;
+  shape = shape-blank;
+  same = record { processors-is = λ h. absurd (omega arith); tasks-is = λ h. absurd (omega arith); task-most = omega arith; steps-are = refl };
 }
 
--- A whole table is a part of itself.
-pub part-whole : (d : Draft) → PartOf (d .table) d
-part-whole d = record {
-  processors = λ h. refl;
-  tasks = λ h. refl;
-  period = take-length (d .table .period);
-  deadline = take-length (d .table .deadline);
-  steps = take-length (d .table .steps);
-  processor = take-length (d .table .processor);
-  priority = take-length (d .table .priority);
-  time = take-length (d .table .time);
-}
+module _ {T : Table} (ok : Checked T) {d : Draft} (p : PartOf T d) where
+  -- The rows that its steps ask for are the plan's before the next task,
+  pub part-asked : rowsAsked (d .table) ≡ firstRow T (length (d .table .steps))
+  unfolding rowsAsked firstRow
+  part-asked =
+      sum-ext (length (d .table .steps)) {f = at (d .table .steps)} {g = at (T .steps)}
+      (λ i h. ap (λ (l : List ℕ). at l i) (p .same .steps-are) ∙ getD-take (length (d .table .steps)) (T .steps) i 0 h)
 
--- The next key.
+  -- and no more than the plan's.
+  pub part-rows : rowsAsked (d .table) ≤ rows T
+  unfolding rows
+  part-rows = rw part-asked (first-row-mono T (length (d .table .steps)) (T .tasks) (p .same .task-most))
 
--- After a `time` line it is `processor`, `task` or none,
-pub following-time : (T : Table) (P : ℕ → Type 0) → P processorKey → P taskKey → P noKey → P (following timeKey T)
-unfolding following
-following-time T P row task none = go (ltb (length (T .time)) (rowsAsked T)) (ltb (length (T .steps)) (T .tasks))
-  where
-    go : (a b : Bool) → P (cond a processorKey (cond b taskKey noKey))
-    go true b = row
-    go false true = task
-    go false false = none
+module _ {T : Table} (ok : Checked T) where
+  abbrev Accepts : ℕ → Type 0
+  Accepts key =
+      (U : Table) → PartOf T (record { key = key; table = U }) → key < noKey
+      → Accepted (record { key = key; table = U }) (valueFor T (record { key = key; table = U }))
 
--- and after any other key the next in order.
-pub following-other : (key : ℕ) (T : Table) → (key ≡ timeKey → ⊥) → following key T ≡ key + 1
-unfolding following
-following-other key T h = rw (ne-eqb key timeKey h)
+  -- The values of a task and of a row are in their ranges,
+  accepts-period : Accepts periodKey
+  unfolding valueFor rangeOf ranges own tooMany
+  accepts-period U p h =
+      let w = ok .tasks .each (length (U .period)) (omega (arith, p .same .tasks-is (omega arith), p .shape .task-due, p .shape .period)) in
+      record { range = in-range-of _ _ _ (omega (arith, w)); rows = refl }
 
--- The line of a count is before every later key, and leaves the other count.
-count-kept : (c key v old : ℕ) (T : Table) → c ≤ tasksKey → c < key → (c < following key T) × (cond (eqb key c) v old ≡ old)
-count-kept c key v old T l h = (go (ℕ-discrete key timeKey), rw (ne-eqb key c (λ e. omega arith)))
-  where
-    go : Dec (key ≡ timeKey) → c < following key T
-    go (yes e) = rw e (following-time T (λ n. c < n) (omega arith) (omega arith) (omega arith))
-    go (no e) = rw (following-other key T e) (omega arith)
+  accepts-deadline : Accepts deadlineKey
+  unfolding valueFor rangeOf ranges own tooMany
+  accepts-deadline U p h =
+      let w = ok .tasks .each (length (U .deadline)) (omega (arith, p .same .tasks-is (omega arith), p .shape .task-due, p .shape .deadline)) in
+      record { range = in-range-of _ _ _ (omega (arith, w)); rows = refl }
 
--- What holds of the value that a line brings and of the count that was there holds of the count that is there then.
-pub count-next :
-    (Q : ℕ → Type 0) (c key v old : ℕ) (T : Table) → c ≤ tasksKey → (key ≡ c → Q v) → (c < key → Q old) → c < following key T
-    → Q (cond (eqb key c) v old)
-count-next Q c key v old T l new kept h = go (ℕ-discrete key c)
-  where
-    go : Dec (key ≡ c) → Q (cond (eqb key c) v old)
-    go (yes e) = rw (eq-eqb key c e) (new e)
-    go (no e) =
-        rw (ne-eqb key c e)
-        (kept (by-contra (suc c) key (λ b. omega (arith, following-other key T (λ g. omega arith)))))
+  accepts-steps : Accepts stepsKey
+  unfolding valueFor rangeOf ranges own tooMany rows
+  accepts-steps U p h =
+      let n = length (U .steps) in
+      let there : n < T .tasks = omega (arith, p .same .tasks-is (omega arith), p .shape .task-due) in
+      let w = ok .tasks .each n there in
+      let few : rowsAsked U + at (T .steps) n ≤ 128 =
+      omega (arith, part-asked ok p, first-row-suc T n, first-row-mono T (suc n) (T .tasks) there, ok .rows-most) in
+      record { range = in-range-of _ _ _ (omega (arith, w)); rows = le-ltb 128 (rowsAsked U + at (T .steps) n) few }
 
-module _ (T : Table) (d : Draft) where
-  -- One line less is a part still,
-  pub part-before : (v : ℕ) → PartOf T (advanced d v) → PartOf T d
-  unfolding advanced placed
-  part-before v p = record {
-    processors = λ h. (let w = count-kept processorsKey (d .key) v (d .table .processors) next (omega arith) h in
-        sym (w .1) ∙ p .processors (w .0));
-    tasks = λ h. (let w = count-kept tasksKey (d .key) v (d .table .tasks) next (omega arith) h in sym (w .1) ∙ p .tasks (w .0));
-    period = front-less (eqb (d .key) periodKey) v _ _ (p .period);
-    deadline = front-less (eqb (d .key) deadlineKey) v _ _ (p .deadline);
-    steps = front-less (eqb (d .key) stepsKey) v _ _ (p .steps);
-    processor = front-less (eqb (d .key) processorKey) v _ _ (p .processor);
-    priority = front-less (eqb (d .key) priorityKey) v _ _ (p .priority);
-    time = front-less (eqb (d .key) timeKey) v _ _ (p .time);
+  accepts-processor : Accepts processorKey
+  unfolding valueFor rangeOf ranges own tooMany
+  accepts-processor U p h =
+      let w = ok .row (length (U .processor)) (omega (arith, p .shape .processor, p .shape .row-due, part-rows ok p)) in
+      record { range = in-range-of _ _ _ (omega (arith, w, p .same .processors-is (omega arith))); rows = refl }
+
+  accepts-priority : Accepts priorityKey
+  unfolding valueFor rangeOf ranges own tooMany
+  accepts-priority U p h =
+      let w = ok .row (length (U .priority)) (omega (arith, p .shape .priority, p .shape .row-due, part-rows ok p)) in
+      record { range = in-range-of _ _ _ (omega (arith, w)); rows = refl }
+
+  accepts-time : Accepts timeKey
+  unfolding valueFor rangeOf ranges own tooMany
+  accepts-time U p h =
+      let w = ok .row (length (U .time)) (omega (arith, p .shape .row-due, part-rows ok p)) in
+      record { range = in-range-of _ _ _ (omega (arith, w)); rows = refl }
+
+  -- and so are the others.
+  accepts : EachKey Accepts
+  unfolding valueFor rangeOf ranges own tooMany
+  accepts = record {
+    plan = λ U p h. record { range = in-range-of _ _ _ (omega arith); rows = refl };
+    processors = λ U p h. record { range = in-range-of _ _ _ (omega (arith, ok .processors-least, ok .processors-most)); rows = refl };
+    tasks = λ U p h. record { range = in-range-of _ _ _ (omega (arith, ok .tasks-least, ok .tasks-most)); rows = refl };
+    task = λ U p h. record { range = in-range-of _ _ _ (omega arith); rows = refl };
+    period = accepts-period;
+    deadline = accepts-deadline;
+    steps = accepts-steps;
+    processor = accepts-processor;
+    priority = accepts-priority;
+    time = accepts-time;
+    none = λ key g U p h. absurd (omega arith);
   }
-    where
-      next : Table
-      next = placed (d .key) v (d .table)
 
--- and the value of the line is the table's.
-abbrev Says : Table → ℕ → Type 0
-Says T key =
-    (t : Table) (v : ℕ) → PartOf T (advanced (draftOf key t) v) → inRange key (own (draftOf key t)) v ≡ true
-    → valueFor T (draftOf key t) ≡ v
+  pub part-accepted : {d : Draft} → PartOf T d → d .key < noKey → Accepted d (valueFor T d)
+  part-accepted {d} p h = by-key accepts (d .key) (d .table) p h
 
-says : (T : Table) → EachKey (Says T)
-unfolding valueFor advanced placed following added own rangeOf ranges
-says T = record {
-  plan = λ t v p r. omega (arith, within-of planKey _ v r);
-  processors = λ t v p r. sym (p .processors (omega arith));
-  tasks = λ t v p r. sym (p .tasks (omega arith));
-  task = λ t v p r. omega (arith, within-of taskKey _ v r);
-  period = λ t v p r. front-last v (t .period) (T .period) (p .period);
-  deadline = λ t v p r. front-last v (t .deadline) (T .deadline) (p .deadline);
-  steps = λ t v p r. front-last v (t .steps) (T .steps) (p .steps);
-  processor = λ t v p r. front-last v (t .processor) (T .processor) (p .processor);
-  priority = λ t v p r. front-last v (t .priority) (T .priority) (p .priority);
-  time = λ t v p r. front-last v (t .time) (T .time) (p .time);
-  none = λ key h t v p r. absurd (none-in-range key _ v h r);
+  -- Once the counts are there, they stay.
+  stays : {key processors tasks : ℕ} {steps : List ℕ} → tasksKey < key → (next : ℕ) → Same T key processors tasks steps → Same T next processors tasks steps
+  stays h next s = record {
+    processors-is = λ g. s .processors-is (omega arith);
+    tasks-is = λ g. s .tasks-is h;
+    task-most = s .task-most;
+    steps-are = s .steps-are;
+  }
+
+  abbrev Follows : ℕ → Type 0
+  Follows key =
+      (U : Table) → PartOf T (record { key = key; table = U }) → key < noKey
+      → (let d = advanced (record { key = key; table = U }) (valueFor T (record { key = key; table = U })) in
+      Same T (d .key) (d .table .processors) (d .table .tasks) (d .table .steps))
+
+  follows-steps : Follows stepsKey
+  unfolding advanced placed added following valueFor
+  follows-steps U p h =
+      let n = length (U .steps) in
+      let there : n < T .tasks = omega (arith, p .same .tasks-is (omega arith), p .shape .task-due) in
+      let more : length (U .steps ++ (at (T .steps) n ∷ [])) ≡ suc n = omega (arith, length-append (U .steps) (at (T .steps) n ∷ [])) in
+      let one : take (suc n) (T .steps) ≡ take n (T .steps) ++ (at (T .steps) n ∷ []) = take-suc (T .steps) n 0 (omega (arith, ok .tasks .long .three)) in
+      record {
+        processors-is = λ g. p .same .processors-is (omega arith);
+        tasks-is = λ g. p .same .tasks-is (omega arith);
+        task-most = omega (arith, more);
+        steps-are = ap (λ (l : List ℕ). l ++ (at (T .steps) n ∷ [])) (p .same .steps-are) ∙ sym one ∙ ap (λ (k : ℕ). take k (T .steps)) (sym more);
+      }
+
+  follows : EachKey Follows
+  unfolding advanced placed added following valueFor
+  follows = record {
+    plan = λ U p h. record {
+      processors-is = λ g. absurd (omega arith);
+      tasks-is = λ g. absurd (omega arith);
+      task-most = p .same .task-most;
+      steps-are = p .same .steps-are;
+    };
+    processors = λ U p h. record {
+      processors-is = λ g. refl;
+      tasks-is = λ g. absurd (omega arith);
+      task-most = p .same .task-most;
+      steps-are = p .same .steps-are;
+    };
+    tasks = λ U p h. record {
+      processors-is = λ g. p .same .processors-is (omega arith);
+      tasks-is = λ g. refl;
+      task-most = p .same .task-most;
+      steps-are = p .same .steps-are;
+    };
+    task = λ U p h. stays (omega arith) _ (p .same);
+    period = λ U p h. stays (omega arith) _ (p .same);
+    deadline = λ U p h. stays (omega arith) _ (p .same);
+    steps = follows-steps;
+    processor = λ U p h. stays (omega arith) _ (p .same);
+    priority = λ U p h. stays (omega arith) _ (p .same);
+    time = λ U p h. stays (omega arith) _ (p .same);
+    none = λ key g U p h. absurd (omega arith);
+  }
+
+  -- The table's next value makes a longer draft of it.
+  pub part-next : {d : Draft} → PartOf T d → d .key < noKey → PartOf T (advanced d (valueFor T d))
+  part-next {d} p h = record {
+    shape = shape-next d (valueFor T d) (p .shape) (part-accepted p h);
+    same = by-key follows (d .key) (d .table) p h;
+  }
+
+  -- Lines are left while a key is due, and none behind the last.
+  Left : ℕ → Type 0
+  Left key = (U : Table) → PartOf T (record { key = key; table = U }) → key < noKey → linesSoFar (record { key = key; table = U }) < linesOf T
+
+  left : EachKey Left
+  unfolding Left linesSoFar linesOf
+  left = record {
+    plan = λ U p h. omega (arith, p .shape, part-rows ok p);
+    processors = λ U p h. omega (arith, p .shape, part-rows ok p);
+    tasks = λ U p h. omega (arith, p .shape, part-rows ok p);
+    task = λ U p h. omega (arith, p .shape, p .same .tasks-is (omega arith), part-rows ok p);
+    period = λ U p h. omega (arith, p .shape, p .same .tasks-is (omega arith), part-rows ok p);
+    deadline = λ U p h. omega (arith, p .shape, p .same .tasks-is (omega arith), part-rows ok p);
+    steps = λ U p h. omega (arith, p .shape, p .same .tasks-is (omega arith), part-rows ok p);
+    processor = λ U p h. omega (arith, p .shape, p .same .tasks-is (omega arith), part-rows ok p);
+    priority = λ U p h. omega (arith, p .shape, p .same .tasks-is (omega arith), part-rows ok p);
+    time = λ U p h. omega (arith, p .shape, p .same .tasks-is (omega arith), part-rows ok p);
+    none = λ key g U p h. absurd (omega arith);
+  }
+
+  pub part-left : {d : Draft} → PartOf T d → d .key < noKey → linesSoFar d < linesOf T
+  unfolding Left
+  part-left {d} p h = by-key left (d .key) (d .table) p h
+
+  pub part-all : {d : Draft} → PartOf T d → d .key ≡ noKey → linesSoFar d ≡ linesOf T
+  unfolding linesSoFar linesOf rows
+  part-all {d} p e =
+      let z = at-key d e (p .shape) in
+      let n : length (d .table .steps) ≡ T .tasks =
+      omega (arith, z .task-left, p .same .tasks-is (omega arith), p .same .task-most) in
+      let r : length (d .table .time) ≡ firstRow T (T .tasks) =
+      omega (arith, z .row-due, z .row-left, part-asked ok p, ap (λ (k : ℕ). firstRow T k) n) in
+      rw e (omega arith)
+
+-- How many bytes a line has at most, by its key's number: word, '=', the digits of the greatest value and LF.
+unfoldable pub lineMost : ℕ → ℕ
+lineMost key = getD (7 ∷ 14 ∷ 9 ∷ 8 ∷ 15 ∷ 19 ∷ 9 ∷ 13 ∷ 13 ∷ 13 ∷ []) key 0
+
+abbrev Fits : ℕ → Type 0
+Fits key = (n v : ℕ) → n ≤ 99 → inRange key n v ≡ true → length (lineOf key v) ≤ lineMost key
+
+-- The digits of a value in its range.
+digits-most : (k key v : ℕ) → 0 < k → v < 10 ^ k → length (lineOf key v) ≤ length (word key) + k + 2
+unfolding lineOf
+digits-most k key v p h = omega (arith, length-line (word key) v, decimal-few k v p h)
+
+fits : EachKey Fits
+unfolding lineMost rangeOf ranges word words
+fits = record {
+  plan = λ n v h e. digits-most 1 planKey v (omega arith) (omega (arith, within-of planKey n v e));
+  processors = λ n v h e. digits-most 2 processorsKey v (omega arith) (omega (arith, within-of processorsKey n v e));
+  tasks = λ n v h e. digits-most 2 tasksKey v (omega arith) (omega (arith, within-of tasksKey n v e));
+  task = λ n v h e. digits-most 2 taskKey v (omega arith) (omega (arith, within-of taskKey n v e));
+  period = λ n v h e. digits-most 7 periodKey v (omega arith) (omega (arith, within-of periodKey n v e));
+  deadline = λ n v h e. digits-most 9 deadlineKey v (omega arith) (omega (arith, within-of deadlineKey n v e));
+  steps = λ n v h e. digits-most 2 stepsKey v (omega arith) (omega (arith, within-of stepsKey n v e));
+  processor = λ n v h e. digits-most 2 processorKey v (omega arith) (omega (arith, within-of processorKey n v e));
+  priority = λ n v h e. digits-most 3 priorityKey v (omega arith) (omega (arith, within-of priorityKey n v e));
+  time = λ n v h e. digits-most 7 timeKey v (omega arith) (omega (arith, within-of timeKey n v e));
+  none = λ key g n v h e. absurd (none-in-range key n v g e);
 }
 
-pub part-value :
-    (T : Table) (d : Draft) (v : ℕ) → PartOf T (advanced d v) → inRange (d .key) (own d) v ≡ true → valueFor T d ≡ v
-part-value T d v p r = by-key (says T) (d .key) (d .table) v p r
+-- How many bytes the lines that a draft has take at most.
+unfoldable pub bytesSoFar : Draft → ℕ
+bytesSoFar d =
+    byKey (0 ∷ 7 ∷ 21 ∷ 30 ∷ 38 ∷ 53 ∷ 72 ∷ 30 ∷ 43 ∷ 56 ∷ 30 ∷ []) d + 51 * length (d .table .steps) + 39 * length (d .table .time)
+
+abbrev Grows : ℕ → Type 0
+Grows key =
+    (U : Table) (v : ℕ) → key < noKey
+    → bytesSoFar (advanced (record { key = key; table = U }) v) ≡ bytesSoFar (record { key = key; table = U }) + lineMost key
+
+grows-time : Grows timeKey
+unfolding bytesSoFar lineMost advanced placed added
+grows-time U v h =
+    let one-more = length-append (U .time) (v ∷ []) in
+    after-row U v (λ key. bytesSoFar (record { key = key; table = placed timeKey v U }) ≡ bytesSoFar (record { key = timeKey; table = U }) + lineMost timeKey)
+    (λ r. omega (arith, one-more)) (λ r t. omega (arith, one-more)) (λ r t. omega (arith, one-more))
+
+-- Each line adds no more than its most,
+grows : EachKey Grows
+unfolding bytesSoFar lineMost advanced placed added following
+grows = record {
+  plan = λ U v h. omega arith;
+  processors = λ U v h. omega arith;
+  tasks = λ U v h. omega arith;
+  task = λ U v h. omega arith;
+  period = λ U v h. omega arith;
+  deadline = λ U v h. omega arith;
+  steps = λ U v h. omega (arith, length-append (U .steps) (v ∷ []));
+  processor = λ U v h. omega arith;
+  priority = λ U v h. omega arith;
+  time = grows-time;
+  none = λ key g U v h. absurd (omega arith);
+}
+
+abbrev Ends : ℕ → Type 0
+Ends key = (U : Table) → Shape (record { key = key; table = U }) → bytesSoFar (record { key = key; table = U }) ≤ 6654
+
+ends-last : {key : ℕ} (U : Table) → key ≡ noKey → Shape (record { key = key; table = U }) → bytesSoFar (record { key = key; table = U }) ≤ 6654
+unfolding bytesSoFar
+ends-last U e s = let z = at-key (record { key = _; table = U }) e s in rw e (omega (arith, z))
+
+-- and all together no more than 6,654.
+ends : EachKey Ends
+unfolding bytesSoFar
+ends = record {
+  plan = λ U s. omega arith;
+  processors = λ U s. omega arith;
+  tasks = λ U s. omega arith;
+  task = λ U s. omega arith;
+  period = λ U s. omega arith;
+  deadline = λ U s. omega arith;
+  steps = λ U s. omega arith;
+  processor = λ U s. omega arith;
+  priority = λ U s. omega arith;
+  time = λ U s. omega arith;
+  none = λ key h U s. (let e : key ≡ noKey = omega (arith, s .key-most) in ends-last U e s);
+}
+
+module _ {T : Table} (ok : Checked T) where
+  -- The lines that are left, with those that are there, fit.
+  lines-fit : (n : ℕ) (d : Draft) → PartOf T d → linesSoFar d + n ≡ linesOf T → length (linesFrom n T d) + bytesSoFar d ≤ 6654
+  unfolding linesFrom
+  lines-fit zero d p e = omega (arith, by-key ends (d .key) (d .table) (p .shape))
+  lines-fit (suc n) d p e =
+      let v = valueFor T d in
+      let due : d .key < noKey = by-contra (suc (d .key)) noKey (λ b. omega (arith, part-all ok p (omega (arith, p .shape .key-most)))) in
+      let line : length (lineOf (d .key) v) ≤ lineMost (d .key) =
+      by-key fits (d .key) (own d) v (omega (arith, own-most d (p .shape))) (part-accepted ok p due .range) in
+      let ih = lines-fit n (advanced d v) (part-next ok p due) (omega (arith, lines-next d v due)) in
+      omega (
+        arith,
+        line,
+        ih,
+        length-append (lineOf (d .key) v) (linesFrom n T (advanced d v)),
+        by-key grows (d .key) (d .table) v due,
+      )
+
+  -- The file of a plan has at most 6,654 bytes.
+  pub file-most : length (fileOf T) ≤ 6654
+  unfolding fileOf linesSoFar blank
+  file-most = omega (arith, lines-fit (linesOf T) blank (part-blank T) (omega arith))

@@ -29,17 +29,6 @@ judgement number u (Value v behind) =
     cond (not (inRange (u .key) (ownNumber u) v)) (Wrong (OutOfRange number))
     (cond (asksTooMany u v) (Wrong (TooManyRows number)) (Right v behind))
 
--- The six lists together.
-abbrev pub listsOf : List ℕ → List ℕ → List ℕ → List ℕ → List ℕ → List ℕ → Lists
-listsOf period deadline steps processor priority time = record {
-  period = period;
-  deadline = deadline;
-  steps = steps;
-  processor = processor;
-  priority = priority;
-  time = time;
-}
-
 -- The list with the value at the place, if it is the list of the key.
 unfoldable pub storedIf : Bool → ℕ → ℕ → List ℕ → List ℕ
 storedIf true place v l = set l place v
@@ -59,5 +48,5 @@ stored key task row v l = record {
 -- What was found, with its lists at the front of these.
 unfoldable pub foundIn : Found → Lists → Held
 foundIn (Refused r) l = refusal r
-foundIn (Table processors tasks rows) l =
-    table (tableOf processors tasks (take tasks (l .period)) (take tasks (l .deadline)) (take tasks (l .steps)) (take rows (l .processor)) (take rows (l .priority)) (take rows (l .time)))
+foundIn (Table counts rows) l =
+    table (tableOf (counts .processors) (counts .tasks) (take (counts .tasks) (l .period)) (take (counts .tasks) (l .deadline)) (take (counts .tasks) (l .steps)) (take rows (l .processor)) (take rows (l .priority)) (take rows (l .time)))

@@ -21,6 +21,7 @@ use Rattle.planfile.specs.declared.line.Line.{Line}
 use Rattle.planfile.specs.declared.line.Line.the-variants.{Value, Fault}
 use Rattle.planfile.specs.declared.read.Judged.{Judged}
 use Rattle.planfile.specs.declared.read.Judged.the-variants.{Right, Wrong}
+use Rattle.planfile.specs.declared.read.Counts.{Counts}
 use Rattle.planfile.specs.declared.read.Found.{Found}
 use Rattle.planfile.specs.declared.read.Found.the-variants as found
 use Rattle.planfile.specs.declared.read.Reading.the-variants.{Read, Refused}
@@ -30,8 +31,8 @@ use Rattle.planfile.specs.Due.{dueOf, begun, ownNumber, past}
 use Rattle.planfile.specs.DueLaws.{Few, due-blank, due-advanced, due-few, value-few}
 use Rattle.planfile.specs.Line.{lineAt}
 use Rattle.planfile.specs.LineLaws.{line-behind}
-use Rattle.planfile.specs.Reading.{Held, table, refusal, Lists, ReadOutcome, tooMany, judged, heldFrom, held, laidOver, readOf}
-use Rattle.planfile.specs.Reader.{asksTooMany, judgement, listsOf, storedIf, stored, foundIn}
+use Rattle.planfile.specs.Reading.{Held, table, refusal, Lists, listsOf, ReadOutcome, tooMany, judged, heldFrom, held, laidOver, readOf}
+use Rattle.planfile.specs.Reader.{asksTooMany, judgement, storedIf, stored, foundIn}
 
 -- Judging.
 
@@ -131,24 +132,34 @@ sized-next u v l s = record {
   time = length-stored _ _ v _ ∙ s .time;
 }
 
--- There is a place for the value of the key due.
+-- There is a place for the value of the key due, in the lists of the tasks and in those of the rows.
+pub record TaskSlots (u : Due) (period deadline steps : List ℕ) : Type 0 where
+  pub period-has : u .key ≡ periodKey → u .task < length period
+  pub deadline-has : u .key ≡ deadlineKey → u .task < length deadline
+  pub steps-has : u .key ≡ stepsKey → u .task < length steps
+
+pub record RowSlots (u : Due) (processor priority time : List ℕ) : Type 0 where
+  pub processor-has : u .key ≡ processorKey → u .row < length processor
+  pub priority-has : u .key ≡ priorityKey → u .row < length priority
+  pub time-has : u .key ≡ timeKey → u .row < length time
+
 pub record Slots (u : Due) (l : Lists) : Type 0 where
-  pub period : u .key ≡ periodKey → u .task < length (l .period)
-  pub deadline : u .key ≡ deadlineKey → u .task < length (l .deadline)
-  pub steps : u .key ≡ stepsKey → u .task < length (l .steps)
-  pub processor : u .key ≡ processorKey → u .row < length (l .processor)
-  pub priority : u .key ≡ priorityKey → u .row < length (l .priority)
-  pub time : u .key ≡ timeKey → u .row < length (l .time)
+  pub tasks : TaskSlots u (l .period) (l .deadline) (l .steps)
+  pub rows : RowSlots u (l .processor) (l .priority) (l .time)
 
 slots : (d : Draft) (l : Lists) → Shape d → Sized l → Slots (dueOf d) l
 unfolding dueOf
 slots d l s z = record {
-  period = λ e. (let k = at-key d e s in omega (arith, k .task-most, z .period));
-  deadline = λ e. (let k = at-key d e s in omega (arith, k .task-most, z .deadline));
-  steps = λ e. (let k = at-key d e s in omega (arith, k .task-most, z .steps));
-  processor = λ e. (let k = at-key d e s in omega (arith, k .row-due, k .row-most, z .processor));
-  priority = λ e. (let k = at-key d e s in omega (arith, k .row-due, k .row-most, z .priority));
-  time = λ e. (let k = at-key d e s in omega (arith, k .row-due, k .row-most, z .time));
+  tasks = record {
+    period-has = λ e. (let k = at-key d e s in omega (arith, k .task-most, z .period));
+    deadline-has = λ e. (let k = at-key d e s in omega (arith, k .task-most, z .deadline));
+    steps-has = λ e. (let k = at-key d e s in omega (arith, k .task-most, z .steps));
+  };
+  rows = record {
+    processor-has = λ e. (let k = at-key d e s in omega (arith, k .row-due, k .row-most, z .processor));
+    priority-has = λ e. (let k = at-key d e s in omega (arith, k .row-due, k .row-most, z .priority));
+    time-has = λ e. (let k = at-key d e s in omega (arith, k .row-due, k .row-most, z .time));
+  };
 }
 
 -- A list has another at its front, also with one entry more.
@@ -181,17 +192,17 @@ kept-next d v l s z k =
     let room = slots d l s z in
     record {
       period = front-next (eqb (d .key) periodKey) _ v _ _ (k .period)
-          (λ e. (let q = eqb-true (d .key) periodKey e in (omega (arith, at-key d q s .period), room .period q)));
+          (λ e. (let q = eqb-true (d .key) periodKey e in (omega (arith, at-key d q s .period), room .tasks .period-has q)));
       deadline = front-next (eqb (d .key) deadlineKey) _ v _ _ (k .deadline)
-          (λ e. (let q = eqb-true (d .key) deadlineKey e in (omega (arith, at-key d q s .deadline), room .deadline q)));
+          (λ e. (let q = eqb-true (d .key) deadlineKey e in (omega (arith, at-key d q s .deadline), room .tasks .deadline-has q)));
       steps = front-next (eqb (d .key) stepsKey) _ v _ _ (k .steps)
-          (λ e. (let q = eqb-true (d .key) stepsKey e in (refl, room .steps q)));
+          (λ e. (let q = eqb-true (d .key) stepsKey e in (refl, room .tasks .steps-has q)));
       processor = front-next (eqb (d .key) processorKey) _ v _ _ (k .processor)
-          (λ e. (let q = eqb-true (d .key) processorKey e in (omega (arith, at-key d q s .processor), room .processor q)));
+          (λ e. (let q = eqb-true (d .key) processorKey e in (omega (arith, at-key d q s .processor), room .rows .processor-has q)));
       priority = front-next (eqb (d .key) priorityKey) _ v _ _ (k .priority)
-          (λ e. (let q = eqb-true (d .key) priorityKey e in (omega (arith, at-key d q s .priority), room .priority q)));
+          (λ e. (let q = eqb-true (d .key) priorityKey e in (omega (arith, at-key d q s .priority), room .rows .priority-has q)));
       time = front-next (eqb (d .key) timeKey) _ v _ _ (k .time)
-          (λ e. (let q = eqb-true (d .key) timeKey e in (refl, room .time q)));
+          (λ e. (let q = eqb-true (d .key) timeKey e in (refl, room .rows .time-has q)));
     }
 
 -- Line by line.
@@ -248,7 +259,7 @@ kept-of d u v l e s z k = rw e (kept-next d v l s z k)
 
 end-found :
     (d : Draft) (u : Due) (l : Lists) → u ≡ dueOf d → Shape d → d .key ≡ noKey → Kept (d .table) l
-    → table (d .table) ≡ foundIn (found.Table (u .processors) (u .tasks) (u .row)) l
+    → table (d .table) ≡ foundIn (found.Table (record { processors = u .processors; tasks = u .tasks }) (u .row)) l
 unfolding foundIn dueOf
 end-found d u l e s q k =
     let z = at-key d q s in
@@ -342,7 +353,7 @@ module _ {file : List ℕ} {u : Due} {place number : ℕ} {l : Lists} (s : Reach
   reached-more h n = s .rest ∙ held-more (s .most) file place number (s .draft) (reached-none h) n
 
   -- and then the table is there.
-  pub reached-end : noKey ≤ u .key → place ≡ length file → held file ≡ foundIn (found.Table (u .processors) (u .tasks) (u .row)) l
+  pub reached-end : noKey ≤ u .key → place ≡ length file → held file ≡ foundIn (found.Table (record { processors = u .processors; tasks = u .tasks }) (u .row)) l
   reached-end h e =
       let q = reached-none h in
       s .rest ∙ held-end (s .most) file place number (s .draft) q e ∙ end-found (s .draft) u l (s .due) (s .shape) q (s .kept)
@@ -353,9 +364,32 @@ pub reached-same :
     → Reached file v place number m
 reached-same e f s = rw (e, f) s
 
+-- Six lists, each with the value where it is its key's.
+pub stored-lists :
+    (u : Due) (v : ℕ) (l : Lists) {period deadline steps processor priority time : List ℕ}
+    → period ≡ storedIf (eqb (u .key) periodKey) (u .task) v (l .period)
+    → deadline ≡ storedIf (eqb (u .key) deadlineKey) (u .task) v (l .deadline)
+    → steps ≡ storedIf (eqb (u .key) stepsKey) (u .task) v (l .steps)
+    → processor ≡ storedIf (eqb (u .key) processorKey) (u .row) v (l .processor)
+    → priority ≡ storedIf (eqb (u .key) priorityKey) (u .row) v (l .priority)
+    → time ≡ storedIf (eqb (u .key) timeKey) (u .row) v (l .time)
+    → listsOf period deadline steps processor priority time ≡ stored (u .key) (u .task) (u .row) v l
+unfolding stored
+stored-lists u v l p d s q r t = rw (p, d, s, q, r, t)
+
+-- The same by the key's number.
+pub stored-at :
+    {key k : ℕ} (n place v : ℕ) (l : List ℕ) → key ≡ k → storedIf (eqb k n) place v l ≡ storedIf (eqb key n) place v l
+stored-at n place v l e = sym (ap (λ (m : ℕ). storedIf (eqb m n) place v l) e)
+
+-- A list whose key is another stays.
+pub stored-not : {key : ℕ} (n place v : ℕ) (l : List ℕ) → (key ≡ n → ⊥) → l ≡ storedIf (eqb key n) place v l
+unfolding storedIf
+stored-not n place v l e = rw (ne-eqb _ _ e)
+
 -- What was found has no more tasks and rows than a plan.
 abbrev pub FewFound : Found → Type 0
-FewFound (found.Table processors tasks rows) = (tasks ≤ 32) × (rows ≤ 128)
+FewFound (found.Table counts rows) = (counts .tasks ≤ 32) × (rows ≤ 128)
 FewFound (found.Refused r) = Unit
 
 -- What the file holds was found, with its lists at the front of these.
@@ -369,7 +403,7 @@ found-refused l e = record { held-is = e; few = tt }
 
 pub found-table :
     {file : List ℕ} {u : Due} {place number : ℕ} {l : Lists} → Reached file u place number l → noKey ≤ u .key
-    → place ≡ length file → FoundIn file (found.Table (u .processors) (u .tasks) (u .row)) l
+    → place ≡ length file → FoundIn file (found.Table (record { processors = u .processors; tasks = u .tasks }) (u .row)) l
 found-table s h e = record { held-is = reached-end s h e; few = (reached-few s .tasks, reached-few s .row) }
 
 -- Lists with room for any table.
@@ -379,12 +413,12 @@ pub record Roomy (l : Lists) : Type 0 where
 
 -- Lists over which the table that was found is laid are the outcome of reading it;
 pub read-found :
-    {file : List ℕ} {processors tasks rows : ℕ} {l : Lists} (m : Lists) {period deadline steps processor priority time : List ℕ}
-    → FoundIn file (found.Table processors tasks rows) l → period ≡ laid (take tasks (l .period)) (m .period)
-    → deadline ≡ laid (take tasks (l .deadline)) (m .deadline) → steps ≡ laid (take tasks (l .steps)) (m .steps)
+    {file : List ℕ} {counts : Counts} {rows : ℕ} {l : Lists} (m : Lists) {period deadline steps processor priority time : List ℕ}
+    → FoundIn file (found.Table counts rows) l → period ≡ laid (take (counts .tasks) (l .period)) (m .period)
+    → deadline ≡ laid (take (counts .tasks) (l .deadline)) (m .deadline) → steps ≡ laid (take (counts .tasks) (l .steps)) (m .steps)
     → processor ≡ laid (take rows (l .processor)) (m .processor) → priority ≡ laid (take rows (l .priority)) (m .priority)
     → time ≡ laid (take rows (l .time)) (m .time)
-    → _≡_ {A = ReadOutcome} (record { answer = Read (record { processors = processors; tasks = tasks }); lists = listsOf period deadline steps processor priority time }) (readOf (held file) m)
+    → _≡_ {A = ReadOutcome} (record { answer = Read counts; lists = listsOf period deadline steps processor priority time }) (readOf (held file) m)
 unfolding readOf laidOver foundIn
 read-found m f p d s q u t = rw (f .held-is, p, d, s, q, u, t)
 

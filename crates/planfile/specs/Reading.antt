@@ -60,6 +60,17 @@ pub record Lists : Type 0 where
   pub priority : List ℕ
   pub time : List ℕ
 
+-- These six lists together.
+abbrev pub listsOf : List ℕ → List ℕ → List ℕ → List ℕ → List ℕ → List ℕ → Lists
+listsOf period deadline steps processor priority time = record {
+  period = period;
+  deadline = deadline;
+  steps = steps;
+  processor = processor;
+  priority = priority;
+  time = time;
+}
+
 -- The answer of reading and the lists as they then are.
 pub record ReadOutcome : Type 0 where
   pub answer : Reading

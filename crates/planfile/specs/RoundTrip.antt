@@ -18,7 +18,7 @@ use Rattle.planfile.specs.Verdicts.Verdict.{all-right}
 use Rattle.planfile.specs.VerdictsLaws.{verdict, verdict-held}
 use Rattle.planfile.specs.LinesLaws.{lines-shape, lines-count, lines-values, lines-text}
 use Rattle.planfile.specs.PlanValues.{is-plan}
-use Rattle.planfile.specs.PartLaws.{draftOf, due-there, PartOf, Front, part-whole}
+use Rattle.planfile.specs.FrontLaws.{draftOf, due-there, PartOf, Front, part-whole}
 use Rattle.planfile.specs.FileLaws.{file-gives, file-most, all-lines}
 use Rattle.planfile.specs.NextLineLaws.{asked-part}
 use Rattle.planfile.specs.Trimmed.{trimmed}

@@ -16,7 +16,7 @@ use Rattle.planfile.specs.Words.{words, word, lineOf}
 use Rattle.planfile.specs.Draft.{Draft, noKey, own, added, placed, following, advanced}
 use Rattle.planfile.specs.Reading.{mostBytes}
 use Rattle.planfile.specs.DraftLaws.{Shape, EachKey, by-key, byKey, none-in-range}
-use Rattle.planfile.specs.PartLaws.{draftOf, due-there, following-time}
+use Rattle.planfile.specs.FrontLaws.{draftOf, due-there, following-time}
 use Rattle.planfile.specs.LineTextLaws.{length-lineOf}
 use Rattle.planfile.specs.LinesLaws.{lines-shape}
 use Rattle.planfile.specs.Verdicts.{RightLines}

@@ -20,8 +20,8 @@ use Rattle.planfile.specs.DraftLaws.{Shape, EachKey, by-key, at-key, val
 use Rattle.planfile.specs.Due.{dueOf, begun, past}
 use Rattle.planfile.specs.DueLaws.{Few, due-blank, due-advanced, due-few}
 use Rattle.planfile.specs.File.{valueFor, linesFrom, linesOf, fileOf}
-use Rattle.planfile.specs.OwnDraftLaws.{PartOf, part-blank, part-next, part-accepted, part-left, part-all, part-rows, file-most}
-use Rattle.planfile.specs.Reader.{listsOf}
+use Rattle.planfile.specs.PartLaws.{PartOf, part-blank, part-next, part-accepted, part-left, part-all, part-rows, file-most}
+use Rattle.planfile.specs.Reading.{listsOf}
 use Rattle.planfile.specs.ReaderLaws.{Slots}
 use Rattle.planfile.specs.Writing.{WriteOutcome, write}
 use Rattle.planfile.specs.Writer.{valuesDue, valueDue}
@@ -92,12 +92,16 @@ wrote-start T l size = record {
 slots-of : (T : Table) → Checked T → (d : Draft) → PartOf T d → Slots (dueOf d) (listsOf (T .period) (T .deadline) (T .steps) (T .processor) (T .priority) (T .time))
 unfolding dueOf
 slots-of T ok d p = record {
-  period = λ e. (let k = at-key d e (p .shape) in omega (arith, k .task-due, task e, ok .tasks .long .one));
-  deadline = λ e. (let k = at-key d e (p .shape) in omega (arith, k .task-due, task e, ok .tasks .long .two));
-  steps = λ e. (let k = at-key d e (p .shape) in omega (arith, k .task-due, task e, ok .tasks .long .three));
-  processor = λ e. (let k = at-key d e (p .shape) in omega (arith, k .row-due, part-rows ok p, ok .row-lists .one));
-  priority = λ e. (let k = at-key d e (p .shape) in omega (arith, k .row-due, part-rows ok p, ok .row-lists .two));
-  time = λ e. (let k = at-key d e (p .shape) in omega (arith, k .row-due, part-rows ok p, ok .row-lists .three));
+  tasks = record {
+    period-has = λ e. (let k = at-key d e (p .shape) in omega (arith, k .task-due, task e, ok .tasks .long .one));
+    deadline-has = λ e. (let k = at-key d e (p .shape) in omega (arith, k .task-due, task e, ok .tasks .long .two));
+    steps-has = λ e. (let k = at-key d e (p .shape) in omega (arith, k .task-due, task e, ok .tasks .long .three));
+  };
+  rows = record {
+    processor-has = λ e. (let k = at-key d e (p .shape) in omega (arith, k .row-due, part-rows ok p, ok .row-lists .one));
+    priority-has = λ e. (let k = at-key d e (p .shape) in omega (arith, k .row-due, part-rows ok p, ok .row-lists .two));
+    time-has = λ e. (let k = at-key d e (p .shape) in omega (arith, k .row-due, part-rows ok p, ok .row-lists .three));
+  };
 }
   where
     task : {key : ℕ} → d .key ≡ suc (suc (suc (suc key))) → d .table .tasks ≡ T .tasks

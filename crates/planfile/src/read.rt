@@ -10,16 +10,17 @@ use table::keys;
 use table::ranges::in_range;
 use table::refusal::Refusal;
 ghost use mathlib.Core.Path.{_≡_};
-ghost use mathlib.Core.Bool.{true};
-ghost use Prim.Native.Nat.{_≤_, _<_};
+ghost use Prim.Native.Nat.{_≤_};
+ghost use lib.Dec.{eqb};
 ghost use lib.ListN.{length, take};
 ghost use Rattle.facts.specs.Filled.{laid};
+ghost use Rattle.table.specs.Keys.{deadlineKey, periodKey, priorityKey, processorKey, stepsKey, timeKey};
 ghost use Rattle.table.specs.Table.{longEnough};
 ghost use Rattle.planfile.specs.DueLaws.{Few};
 ghost use Rattle.planfile.specs.Line.{lineAt};
-ghost use Rattle.planfile.specs.Reading.{Lists, ReadOutcome, held, read, readOf};
-ghost use Rattle.planfile.specs.Reader.{asksTooMany, judgement, listsOf, stored};
-ghost use Rattle.planfile.specs.ReaderLaws.{FoundIn, Roomy, Sized, Slots};
+ghost use Rattle.planfile.specs.Reading.{ReadOutcome, held, listsOf, read, readOf};
+ghost use Rattle.planfile.specs.Reader.{asksTooMany, judgement, storedIf};
+ghost use Rattle.planfile.specs.ReaderLaws.{FoundIn, Roomy, RowSlots, Sized, TaskSlots};
 
 // The counts of a table.
 pub struct Counts {
@@ -48,9 +49,9 @@ enum Judged {
     Wrong(Refusal),
 }
 
-// What the lines hold: a table of so many processors, tasks and rows, or a refusal.
+// What the lines hold: a table with these counts and so many rows, or a refusal.
 enum Found {
-    Table(u64, u64, u64),
+    Table(Counts, u64),
     Refused(Refusal),
 }
 
@@ -85,24 +86,15 @@ fn judge(file: &[u8], place: usize, number: u64, due: Due) -> Judged
     }
 }
 
-// Stores the value in the list of the key due, at the task or the row that is given.
-fn store(
-    due: Due,
-    value: u64,
-    period: &mut [u64],
-    deadline: &mut [u64],
-    steps: &mut [u64],
-    processor: &mut [u64],
-    priority: &mut [u64],
-    time: &mut [u64],
-)
-    requires { ⌜ Slots due (listsOf (now period) (now deadline) (now steps) (now processor) (now priority) (now time)) ⌝ }
-    ensures { λ r. ⌜ _≡_ {A = Lists} (listsOf (now (period .exit)) (now (deadline .exit)) (now (steps .exit)) (now (processor .exit)) (now (priority .exit)) (now (time .exit)))
-        (stored (due .key) (due .task) (due .row) value (listsOf (now (period .entry)) (now (deadline .entry)) (now (steps .entry)) (now (processor .entry)) (now (priority .entry)) (now (time .entry)))) ⌝ }
+// Stores the value of a task's key in the key's list, at the task that is given.
+fn store_task(due: Due, value: u64, period: &mut [u64], deadline: &mut [u64], steps: &mut [u64])
+    requires { ⌜ TaskSlots due (now period) (now deadline) (now steps) ⌝ }
+    ensures of_period { λ r. ⌜ now (period .exit) ≡ storedIf (eqb (due .key) periodKey) (due .task) value (now (period .entry)) ⌝ }
+    ensures of_deadline { λ r. ⌜ now (deadline .exit) ≡ storedIf (eqb (due .key) deadlineKey) (due .task) value (now (deadline .entry)) ⌝ }
+    ensures of_steps { λ r. ⌜ now (steps .exit) ≡ storedIf (eqb (due .key) stepsKey) (due .task) value (now (steps .entry)) ⌝ }
 {
     let key = due.key;
     let task = due.task as usize;
-    let row = due.row as usize;
     match key {
         keys::PERIOD => {
             period[task] = value;
@@ -113,6 +105,20 @@ fn store(
         keys::STEPS => {
             steps[task] = value;
         }
+        _ => {}
+    }
+}
+
+// Stores the value of a row's key in the key's list, at the row that is given.
+fn store_row(due: Due, value: u64, processor: &mut [u64], priority: &mut [u64], time: &mut [u64])
+    requires { ⌜ RowSlots due (now processor) (now priority) (now time) ⌝ }
+    ensures of_processor { λ r. ⌜ now (processor .exit) ≡ storedIf (eqb (due .key) processorKey) (due .row) value (now (processor .entry)) ⌝ }
+    ensures of_priority { λ r. ⌜ now (priority .exit) ≡ storedIf (eqb (due .key) priorityKey) (due .row) value (now (priority .entry)) ⌝ }
+    ensures of_time { λ r. ⌜ now (time .exit) ≡ storedIf (eqb (due .key) timeKey) (due .row) value (now (time .entry)) ⌝ }
+{
+    let key = due.key;
+    let row = due.row as usize;
+    match key {
         keys::PROCESSOR => {
             processor[row] = value;
         }
@@ -146,16 +152,8 @@ fn read_lines(
         let judged = judge(file, place, number, due);
         match judged {
             Judged::Right(value, behind) => {
-                store(
-                    due,
-                    value,
-                    period,
-                    deadline,
-                    steps,
-                    processor,
-                    priority,
-                    time,
-                );
+                store_task(due, value, period, deadline, steps);
+                store_row(due, value, processor, priority, time);
                 due = advance(due, value);
                 place = behind;
                 number += 1;
@@ -168,7 +166,11 @@ fn read_lines(
     if place != file.len() {
         return Found::Refused(Refusal::NotTheLineDue(number));
     }
-    Found::Table(due.processors, due.tasks, due.row)
+    let counts = Counts {
+        processors: due.processors,
+        tasks: due.tasks,
+    };
+    Found::Table(counts, due.row)
 }
 
 // Lays the first entries of a list over the front of another.
@@ -207,8 +209,7 @@ fn read_table(
     time: &mut [u64],
 ) -> Reading
     requires { ⌜ Roomy (listsOf (now period) (now deadline) (now steps) (now processor) (now priority) (now time)) ⌝ }
-    ensures { λ r. ⌜ _≡_ {A = ReadOutcome} (record { answer = r; lists = listsOf (now (period .exit)) (now (deadline .exit)) (now (steps .exit)) (now (processor .exit)) (now (priority .exit)) (now (time .exit)) })
-        (readOf (held (now (file .entry))) (listsOf (now (period .entry)) (now (deadline .entry)) (now (steps .entry)) (now (processor .entry)) (now (priority .entry)) (now (time .entry)))) ⌝ }
+    ensures { λ r. ⌜ _≡_ {A = ReadOutcome} (record { answer = r; lists = listsOf (now (period .exit)) (now (deadline .exit)) (now (steps .exit)) (now (processor .exit)) (now (priority .exit)) (now (time .exit)) }) (readOf (held (now (file .entry))) (listsOf (now (period .entry)) (now (deadline .entry)) (now (steps .entry)) (now (processor .entry)) (now (priority .entry)) (now (time .entry)))) ⌝ }
 {
     let mut periods = [0u64; 32];
     let mut deadlines = [0u64; 32];
@@ -216,7 +217,7 @@ fn read_table(
     let mut processors = [0u64; 128];
     let mut priorities = [0u64; 128];
     let mut times = [0u64; 128];
-    let found = read_lines(
+    match read_lines(
         file,
         &mut periods,
         &mut deadlines,
@@ -224,19 +225,15 @@ fn read_table(
         &mut processors,
         &mut priorities,
         &mut times,
-    );
-    match found {
-        Found::Table(processor_count, tasks, rows) => {
-            lay(&periods, tasks as usize, period);
-            lay(&deadlines, tasks as usize, deadline);
-            lay(&step_counts, tasks as usize, steps);
+    ) {
+        Found::Table(counts, rows) => {
+            lay(&periods, counts.tasks as usize, period);
+            lay(&deadlines, counts.tasks as usize, deadline);
+            lay(&step_counts, counts.tasks as usize, steps);
             lay(&processors, rows as usize, processor);
             lay(&priorities, rows as usize, priority);
             lay(&times, rows as usize, time);
-            Reading::Read(Counts {
-                processors: processor_count,
-                tasks,
-            })
+            Reading::Read(counts)
         }
         Found::Refused(refusal) => Reading::Refused(refusal),
     }

@@ -18,7 +18,7 @@ ghost use Rattle.text.specs.TextLaws.{Holds};
 ghost use Rattle.planfile.specs.Words.{lineOf};
 ghost use Rattle.planfile.specs.DueLaws.{Few};
 ghost use Rattle.planfile.specs.File.{fileOf};
-ghost use Rattle.planfile.specs.Reader.{listsOf};
+ghost use Rattle.planfile.specs.Reading.{listsOf};
 ghost use Rattle.planfile.specs.ReaderLaws.{Slots};
 ghost use Rattle.planfile.specs.Writer.{valueDue};
 ghost use Rattle.planfile.specs.Writing.{WriteOutcome, write};
@@ -106,6 +106,40 @@ fn write_lines(
     end
 }
 
+// Writes a plan, if the output has room for its file.
+fn write_plan(
+    processors: u64,
+    tasks: u64,
+    period: &[u64],
+    deadline: &[u64],
+    steps: &[u64],
+    processor: &[u64],
+    priority: &[u64],
+    time: &[u64],
+    out: &mut [u8],
+) -> Writing
+    requires { ⌜ isPlan (tableOf processors tasks (now period) (now deadline) (now steps) (now processor) (now priority) (now time)) ≡ true ⌝ }
+    ensures { λ r. ⌜ _≡_ {A = WriteOutcome} (record { answer = r; out = now (out .exit) }) (write (tableOf processors tasks (now (period .entry)) (now (deadline .entry)) (now (steps .entry)) (now (processor .entry)) (now (priority .entry)) (now (time .entry))) (now (out .entry))) ⌝ }
+{
+    let mut text = [0u8; 8192];
+    let bytes = write_lines(
+        processors,
+        tasks,
+        period,
+        deadline,
+        steps,
+        processor,
+        priority,
+        time,
+        &mut text,
+    );
+    if out.len() < bytes {
+        return Writing::Refused(Refusal::TooShort(bytes as u64));
+    }
+    append(out, 0, &text[..bytes]);
+    Writing::Bytes(bytes as u64)
+}
+
 // Writes a table: a plan's file stands at the front of the output, and a refusal leaves it.
 pub fn write(
     processors: u64,
@@ -132,8 +166,7 @@ pub fn write(
     ) {
         return Writing::Refused(Refusal::NotAPlan);
     }
-    let mut text = [0u8; 8192];
-    let bytes = write_lines(
+    write_plan(
         processors,
         tasks,
         period,
@@ -142,11 +175,6 @@ pub fn write(
         processor,
         priority,
         time,
-        &mut text,
-    );
-    if out.len() < bytes {
-        return Writing::Refused(Refusal::TooShort(bytes as u64));
-    }
-    append(out, 0, &text[..bytes]);
-    Writing::Bytes(bytes as u64)
+        out,
+    )
 }

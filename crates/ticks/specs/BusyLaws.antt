@@ -12,7 +12,7 @@ use Rattle.facts.specs.Filled.{tab}
 use Rattle.facts.specs.FilledLaws.{tab-ext}
 use Rattle.guards.specs.ListsLaws.{tab-set}
 
-and-yes : (a : Bool) → a && true ≡ a
+pub and-yes : (a : Bool) → a && true ≡ a
 and-yes true = refl
 and-yes false = refl
 

@@ -10,7 +10,7 @@ use Rattle.table.specs.Refusals.{lastClock}
 use Rattle.guards.specs.declared.state.State.{State}
 use Rattle.guards.specs.declared.rows.Rows.{Rows}
 use Rattle.guards.specs.Moment.{Moment, momentOf}
-use Rattle.guards.specs.Machine.{opened}
+use Rattle.guards.specs.Machine.{opened, letGo}
 use Rattle.guards.specs.Rows.{planFrom}
 use Rattle.guards.specs.Calls.{isDone}
 
@@ -82,6 +82,10 @@ chains R processor = planFrom (R .count) (R .period) (R .first) processor [] []
 unfoldable pub readied : Rows → List ℕ → List ℕ → List ℕ → State → Moment
 readied R processor running done σ =
     opened (chains R processor) (ran (runsIn processor running) (endsIn processor done) (momentOf σ))
+
+-- The rows after it.
+unfoldable pub stepped : Rows → List ℕ → List ℕ → List ℕ → State → Moment
+stepped R processor running done σ = letGo (chains R processor) (readied R processor running done σ)
 
 -- What all five steps read, and that the numbers that they move on are small.
 pub record Stepping (R : Rows) (processor running done : List ℕ) (σ : State) (released : List ℕ) : Type 0 where

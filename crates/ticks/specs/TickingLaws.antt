@@ -20,7 +20,7 @@ use Rattle.guards.specs.Rows.{planFrom}
 use Rattle.guards.specs.Calls.{isDone, wrongDone, usedUp}
 use Rattle.guards.specs.StateLaws.{Sizes}
 use Rattle.ticks.specs.Done.{wrongHere, upHere, Timely}
-use Rattle.ticks.specs.Steps.{Placed, Working, Stepping, chains, readied, ran, runsIn, endsIn}
+use Rattle.ticks.specs.Steps.{Placed, Working, Stepping, chains, readied, stepped, ran, runsIn, endsIn}
 use Rattle.ticks.specs.Ticking.{Ready, Going}
 use Rattle.ticks.specs.FoundLaws.{best-ext, best-most}
 use Rattle.ticks.specs.SameLaws.{Same, Chained, with-same, opened-same, due-same, let-go-same}
@@ -129,9 +129,9 @@ module _ (R : Rows) (processor priority time : List ℕ) (σ : State) {list : Li
     -- and so are all five.
     pub ticked-made :
         (done : List ℕ)
-        → stateWith (R .count) (letGo (chains R processor) (readied R processor list done σ)) σ
+        → stateWith (R .count) (stepped R processor list done σ) σ
         ≡ stateWith (R .count) (ticked plan (momentOf σ) (isDone done)) σ
-    unfolding ticked
+    unfolding stepped ticked
     ticked-made done = with-same (let-go-same (readied-is done) chained) σ
 
     pub bytes-ticked :

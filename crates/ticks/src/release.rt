@@ -63,13 +63,13 @@ pub(crate) fn open_guards(rows: Rows, processor: &[u64], busy: &[bool], state: S
 fn is_due(first: bool, released: u64, before: u64, guard: u64, clock: u64) -> bool
     ensures { λ r. ⌜ r ≡ (not first && (ltb released before && leb guard clock)) ⌝ }
 {
-    if first {
-        return false;
-    }
     if before <= released {
         return false;
     }
-    guard <= clock
+    if clock < guard {
+        return false;
+    }
+    !first
 }
 
 fn byte_of(due: bool) -> u8

@@ -10,6 +10,7 @@ use crate::work::work;
 use guards::fits::rows_fit;
 use guards::rows::Rows;
 use guards::rows::rows_of;
+use guards::state::LAST_CLOCK;
 use guards::state::Outcome;
 use guards::state::State;
 use guards::state::refused;
@@ -20,15 +21,12 @@ ghost use mathlib.Core.Bool.{cond};
 ghost use Rattle.facts.specs.Filled.{filled};
 ghost use Rattle.table.specs.Table.{tableOf};
 ghost use Rattle.guards.specs.Moment.{stateWith};
-ghost use Rattle.guards.specs.Machine.{due, letGo};
+ghost use Rattle.guards.specs.Machine.{due};
 ghost use Rattle.guards.specs.Rows.{planFrom};
 ghost use Rattle.guards.specs.Calls as calls;
 ghost use Rattle.guards.specs.Calls.{TickOutcome};
-ghost use Rattle.ticks.specs.Steps.{Stepping, chains, readied};
+ghost use Rattle.ticks.specs.Steps.{Stepping, chains, readied, stepped};
 ghost use Rattle.ticks.specs.Ticking.{Going, Ready, doneTick, openTick};
-
-// The clock of a run ends here.
-const LAST_CLOCK: u64 = 1000000000000;
 
 // Steps 1 to 5.
 fn steps(
@@ -40,7 +38,7 @@ fn steps(
     released: &mut [u8],
 ) -> State
     requires { ⌜ Stepping rows (now processor) (now running) (now done) state (now released) ⌝ }
-    ensures { λ r. ⌜ (r ≡ stateWith (rows .count) (letGo (chains rows (now (processor .entry))) (readied rows (now (processor .entry)) (now (running .entry)) (now (done .entry)) state)) state) × (now (released .exit) ≡ filled (λ r. cond (due (chains rows (now (processor .entry))) (readied rows (now (processor .entry)) (now (running .entry)) (now (done .entry)) state) r) 1 0) (rows .count) (now (released .entry))) ⌝ }
+    ensures { λ r. ⌜ (r ≡ stateWith (rows .count) (stepped rows (now (processor .entry)) (now (running .entry)) (now (done .entry)) state) state) × (now (released .exit) ≡ filled (λ r. cond (due (chains rows (now (processor .entry))) (readied rows (now (processor .entry)) (now (running .entry)) (now (done .entry)) state) r) 1 0) (rows .count) (now (released .entry))) ⌝ }
 {
     let worked = work(rows.count, processor, running, done, state);
     let busy = busy_processors(rows.count, processor, worked);
@@ -64,11 +62,11 @@ fn tick_done(
 {
     let running = running_rows(rows.count, processor, priority, state);
     let wrong = lowest_wrong(processors, done, &running);
+    let used = state.used;
+    let up = lowest_up(processors, done, &running, &used, time);
     if wrong < processors {
         return refused(Refusal::WrongDoneByte(wrong as u64 + 1), state);
     }
-    let used = state.used;
-    let up = lowest_up(processors, done, &running, &used, time);
     if up < processors {
         return refused(Refusal::TimeUsedUp(up as u64 + 1), state);
     }

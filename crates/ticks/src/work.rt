@@ -27,13 +27,13 @@ fn used_after(runs: bool, ends: bool, used: u64) -> u64
     requires { ⌜ used ≤ 1000000 ⌝ }
     ensures { λ r. ⌜ r ≡ cond runs (cond ends 0 (used + 1)) used ⌝ }
 {
-    if !runs {
-        return used;
+    if runs {
+        if ends {
+            return 0;
+        }
+        return used + 1;
     }
-    if ends {
-        return 0;
-    }
-    used + 1
+    used
 }
 
 pub(crate) fn work(

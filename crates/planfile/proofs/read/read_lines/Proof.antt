@@ -4,8 +4,9 @@ use mathlib.Core.Path.{_≡_, refl, sym, _∙_}
 use lib.ListN.{length}
 use Rattle.planfile.specs.declared.read.Judged.the-variants.{Right}
 use Rattle.planfile.specs.Line.{lineAt}
-use Rattle.planfile.specs.Reader.{judgement, listsOf}
-use Rattle.planfile.specs.ReaderLaws.{Reached, reached-start, reached-same, reached-few, reached-slots, reached-behind, reached-value, reached-refused, reached-next, reached-more, found-refused, found-table}
+use Rattle.planfile.specs.Reading.{listsOf}
+use Rattle.planfile.specs.Reader.{judgement}
+use Rattle.planfile.specs.ReaderLaws.{Reached, reached-start, reached-same, reached-few, reached-slots, reached-behind, reached-value, reached-refused, reached-next, reached-more, stored-lists, found-refused, found-table}
 use native.Mathlib.Omega.{arith}
 use borrow.Author.Needs.{needs}
 use Rattle.planfile.proofs.read.read_lines.Statement.{statement}
@@ -38,26 +39,35 @@ judge-requires c κs = reached-few (c .before .before .loop .inv)
 enum-known-judged : tie.Need-enum-known-judged Inv-loop μ-loop
 enum-known-judged c = search needs
 
-store-requires : tie.Need-store-requires Inv-loop μ-loop
-store-requires c κs = reached-slots (c .before .before .before .before .before .before .before .before .before .before .before .before .loop .inv)
+store-task-requires : tie.Need-store-task-requires Inv-loop μ-loop
+store-task-requires c κs = reached-slots (c .before .before .before .before .before .before .before .before .before .loop .inv) .tasks
+
+store-row-requires : tie.Need-store-row-requires Inv-loop μ-loop
+store-row-requires c κs = reached-slots (c .before .before .before .before .before .before .before .before .before .before .before .before .before .before .before .before .before .before .before .loop .inv) .rows
 
 advance-requires : tie.Need-advance-requires Inv-loop μ-loop
-advance-requires c κs = (reached-few (c .before .before .before .before .before .before .before .before .before .before .before .before .before .before .before .before .before .before .before .before .before .before .before .before .before .loop .inv), reached-value (c .before .before .before .before .before .before .before .before .before .before .before .before .before .before .before .before .before .before .before .before .before .before .before .before .before .loop .inv) (right (c .before .before .before .before .before .before .before .before .before .before .before .before .before .before .before .before .before .before .before .before)))
+advance-requires c κs = (reached-few (c .before .before .before .before .before .before .before .before .before .before .before .before .before .before .before .before .before .before .before .before .before .before .before .before .before .before .loop .inv), reached-value (c .before .before .before .before .before .before .before .before .before .before .before .before .before .before .before .before .before .before .before .before .before .before .before .before .before .before .loop .inv) (right (c .before .before .before .before .before .before .before .before .before .before .before .before .before .before .before .before .before .before .before .before .before)))
 
 add-number : tie.Need-add-number Inv-loop μ-loop
 add-number c =
-    let s = c .before .before .before .before .before .before .before .before .before .before .before .before .before .before .before .before .before .before .before .before .before .before .before .before .before .before .loop .inv in
-    omega (arith, s .number-most, s .place-most, c .before .before .before .before .before .before .before .before .before .before .before .before .before .before .before .before .before .before .before .before .before .before .before .before .before .before .before .before .before .before .before .before .before .before .before .good .0 .1)
+    let s = c .before .before .before .before .before .before .before .before .before .before .before .before .before .before .before .before .before .before .before .before .before .before .before .before .before .before .before .loop .inv in
+    omega (arith, s .number-most, s .place-most, c .before .before .before .before .before .before .before .before .before .before .before .before .before .before .before .before .before .before .before .before .before .before .before .before .before .before .before .before .before .before .before .before .before .before .before .before .good .0 .1)
 
 loop-less : tie.Need-loop-less Inv-loop μ-loop
 loop-less c =
-    let b = reached-behind (c .before .before .before .before .before .before .before .before .before .before .before .before .before .before .before .before .before .before .before .before .before .before .before .before .before .before .loop .inv) (right (c .before .before .before .before .before .before .before .before .before .before .before .before .before .before .before .before .before .before .before .before .before)) in
+    let b = reached-behind (c .before .before .before .before .before .before .before .before .before .before .before .before .before .before .before .before .before .before .before .before .before .before .before .before .before .before .before .loop .inv) (right (c .before .before .before .before .before .before .before .before .before .before .before .before .before .before .before .before .before .before .before .before .before .before)) in
     omega (arith, b .0, b .1)
 
 loop-again : tie.Need-loop-again Inv-loop μ-loop
 loop-again c =
-    reached-same (c .advance .ensures) (c .before .before .before .before .before .before .before .before .before .before .before .before .before .store .ensures)
-    (reached-next (c .before .before .before .before .before .before .before .before .before .before .before .before .before .before .before .before .before .before .before .before .before .before .before .before .before .before .loop .inv) (c .before .before .before .before .before .before .before .before .before .before .before .before .before .before .before .before .before .before .before .before .before .before .before .before .if1 .taken) (right (c .before .before .before .before .before .before .before .before .before .before .before .before .before .before .before .before .before .before .before .before .before)))
+    let l = c .before .before .before .before .before .before .before .before .before .before .before .before .before .before .before .before .before .before .before .before .before .before .before .before .before .before .before .loop in
+    let t = c .before .before .before .before .before .before .before .before .before .before .before .before .before .before .before .before .before .store-task .ensures in
+    let r = c .before .before .before .before .before .before .before .store-row .ensures in
+    let kept =
+    stored-lists (l .due) (c .before .before .before .before .before .before .before .before .before .before .before .before .before .before .before .before .before .before .before .before .before .before .judged .given .0 .0)
+    (listsOf (l .period) (l .deadline) (l .steps) (l .processor) (l .priority) (l .time))
+    (t .0) (t .1 .0) (t .1 .1) (r .0) (r .1 .0) (r .1 .1) in
+    reached-same (c .advance .ensures) kept (reached-next (l .inv) (c .before .before .before .before .before .before .before .before .before .before .before .before .before .before .before .before .before .before .before .before .before .before .before .before .before .if1 .taken) (right (c .before .before .before .before .before .before .before .before .before .before .before .before .before .before .before .before .before .before .before .before .before .before)))
 
 enum-known-judged-2 : tie.Need-enum-known-judged-2 Inv-loop μ-loop
 enum-known-judged-2 c = search needs
@@ -135,7 +145,8 @@ read-lines-spec =
     loop-holds
     judge-requires
     enum-known-judged
-    store-requires
+    store-task-requires
+    store-row-requires
     advance-requires
     add-number
     loop-less

@@ -1,7 +1,6 @@
 -- `planfile::read::read_table` meets its contract: what the lines hold is laid over the lent lists, or refused.
 use Rattle.planfile.specs.declared.read.Found.the-variants as found
-use Rattle.planfile.specs.Reading.{Lists}
-use Rattle.planfile.specs.Reader.{listsOf}
+use Rattle.planfile.specs.Reading.{Lists, listsOf}
 use Rattle.planfile.specs.ReaderLaws.{FoundIn, read-found, read-refused}
 use native.Mathlib.Omega.{arith}
 use borrow.Author.Needs.{needs}
@@ -12,16 +11,17 @@ use Rattle.planfile.proofs.read.read_table.Tie as tie
 abbrev lent : tie.Start → Lists
 lent c = listsOf (c .args .period .now) (c .args .deadline .now) (c .args .steps .now) (c .args .processor .now) (c .args .priority .now) (c .args .time .now)
 
--- The table that was found.
+-- The table that was found,
 table :
-    (c : tie.After-found)
-    → FoundIn (c .before .before .before .before .before .before .before .before .before .before .before .before .before .before .before .before .before .before .before .before .before .before .args .file .now) (found.Table (c .found .given .0 .0) (c .found .given .0 .1 .0) (c .found .given .0 .1 .1 .0))
+    (c : tie.After-counts) → FoundIn (c .before .before .before .before .before .before .before .before .before .before .before .before .before .before .before .before .before .before .before .before .before .before .args .file .now) (found.Table (c .counts .given .0 .0) (c .counts .given .0 .1 .0))
     (listsOf (c .before .before .before .before .before .before .before .before .read-lines .last .1 .0) (c .before .before .before .before .before .before .before .before .read-lines .last .1 .1 .0) (c .before .before .before .before .before .before .before .before .read-lines .last .1 .1 .1 .0) (c .before .before .before .before .before .before .before .before .read-lines .last .1 .1 .1 .1 .0) (c .before .before .before .before .before .before .before .before .read-lines .last .1 .1 .1 .1 .1 .0) (c .before .before .before .before .before .before .before .before .read-lines .last .1 .1 .1 .1 .1 .1 .0))
-table c = rw (c .found .given .1) at (c .before .before .before .before .before .before .before .before .read-lines .ensures)
+table c = rw (c .counts .given .1) at (c .before .before .before .before .before .before .before .before .read-lines .ensures)
 
--- Or the refusal.
-refused : (c : tie.After-found2) → FoundIn (c .before .before .before .before .before .before .before .before .before .before .before .before .before .before .before .before .before .before .before .before .before .before .args .file .now) (found.Refused (c .found2 .given .0 .0)) (listsOf (c .before .before .before .before .before .before .before .before .read-lines .last .1 .0) (c .before .before .before .before .before .before .before .before .read-lines .last .1 .1 .0) (c .before .before .before .before .before .before .before .before .read-lines .last .1 .1 .1 .0) (c .before .before .before .before .before .before .before .before .read-lines .last .1 .1 .1 .1 .0) (c .before .before .before .before .before .before .before .before .read-lines .last .1 .1 .1 .1 .1 .0) (c .before .before .before .before .before .before .before .before .read-lines .last .1 .1 .1 .1 .1 .1 .0))
-refused c = rw (c .found2 .given .1) at (c .before .before .before .before .before .before .before .before .read-lines .ensures)
+-- or the refusal.
+refused :
+    (c : tie.After-refusal) → FoundIn (c .before .before .before .before .before .before .before .before .before .before .before .before .before .before .before .before .before .before .before .before .before .before .args .file .now) (found.Refused (c .refusal .given .0 .0))
+    (listsOf (c .before .before .before .before .before .before .before .before .read-lines .last .1 .0) (c .before .before .before .before .before .before .before .before .read-lines .last .1 .1 .0) (c .before .before .before .before .before .before .before .before .read-lines .last .1 .1 .1 .0) (c .before .before .before .before .before .before .before .before .read-lines .last .1 .1 .1 .1 .0) (c .before .before .before .before .before .before .before .before .read-lines .last .1 .1 .1 .1 .1 .0) (c .before .before .before .before .before .before .before .before .read-lines .last .1 .1 .1 .1 .1 .1 .0))
+refused c = rw (c .refusal .given .1) at (c .before .before .before .before .before .before .before .before .read-lines .ensures)
 
 slice-aggregate-read-lines : tie.Need-slice-aggregate-read-lines
 slice-aggregate-read-lines c = search needs
@@ -44,8 +44,8 @@ slice-aggregate-read-lines-6 c = search needs
 read-lines-requires : tie.Need-read-lines-requires
 read-lines-requires c κs = search needs
 
-enum-known-found : tie.Need-enum-known-found
-enum-known-found c = search needs
+enum-known-counts : tie.Need-enum-known-counts
+enum-known-counts c = search needs
 
 slice-aggregate-lay : tie.Need-slice-aggregate-lay
 slice-aggregate-lay c = search needs
@@ -83,8 +83,8 @@ slice-aggregate-lay-6 c = search needs
 lay-requires-6 : tie.Need-lay-requires-6
 lay-requires-6 c κs = omega (arith, table (c .before .before .before .before .before .before .before .before .before .before .before .before .before .before .before .before .before .before .before .before .before .before .before .before .before .before .before .before) .few .1, c .before .before .before .before .before .before .before .before .before .before .before .before .before .before .before .before .before .before .before .before .before .before .before .before .before .before .before .before .before .before .before .before .before .before .before .before .read-lines .kept .1 .1 .1 .1 .1 .1 .0, c .before .before .before .before .before .before .before .before .before .before .before .before .before .before .before .before .before .before .before .before .before .before .before .before .before .before .before .before .before .before .before .before .before .before .before .before .before .before .before .before .before .before .before .before .before .before .before .before .before .before .pre .rows .three)
 
-enum-known-found-2 : tie.Need-enum-known-found-2
-enum-known-found-2 c = search needs
+enum-known-refusal : tie.Need-enum-known-refusal
+enum-known-refusal c = search needs
 
 same-length : tie.Need-same-length
 same-length c = search needs
@@ -123,7 +123,7 @@ read-table-spec =
     slice-aggregate-read-lines-5
     slice-aggregate-read-lines-6
     read-lines-requires
-    enum-known-found
+    enum-known-counts
     slice-aggregate-lay
     lay-requires
     slice-aggregate-lay-2
@@ -136,7 +136,7 @@ read-table-spec =
     lay-requires-5
     slice-aggregate-lay-6
     lay-requires-6
-    enum-known-found-2
+    enum-known-refusal
     same-length
     same-length-2
     same-length-3

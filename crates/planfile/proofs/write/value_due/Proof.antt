@@ -28,37 +28,37 @@ mul-result : tie.Need-mul-result
 mul-result c = search needs
 
 shared-slice-read-result : tie.Need-shared-slice-read-result
-shared-slice-read-result c = omega (arith, c .before .before .pre .1 .period (c .before .match .keys5))
+shared-slice-read-result c = omega (arith, c .before .before .pre .1 .tasks .period-has (c .before .match .keys5))
 
 mul-result-2 : tie.Need-mul-result-2
 mul-result-2 c = search needs
 
 shared-slice-read-result-2 : tie.Need-shared-slice-read-result-2
-shared-slice-read-result-2 c = omega (arith, c .before .before .pre .1 .deadline (c .before .match .keys6))
+shared-slice-read-result-2 c = omega (arith, c .before .before .pre .1 .tasks .deadline-has (c .before .match .keys6))
 
 mul-result-3 : tie.Need-mul-result-3
 mul-result-3 c = search needs
 
 shared-slice-read-result-3 : tie.Need-shared-slice-read-result-3
-shared-slice-read-result-3 c = omega (arith, c .before .before .pre .1 .steps (c .before .match .keys7))
+shared-slice-read-result-3 c = omega (arith, c .before .before .pre .1 .tasks .steps-has (c .before .match .keys7))
 
 mul-result-4 : tie.Need-mul-result-4
 mul-result-4 c = search needs
 
 shared-slice-read-result-4 : tie.Need-shared-slice-read-result-4
-shared-slice-read-result-4 c = omega (arith, c .before .before .pre .1 .processor (c .before .match .keys8))
+shared-slice-read-result-4 c = omega (arith, c .before .before .pre .1 .rows .processor-has (c .before .match .keys8))
 
 mul-result-5 : tie.Need-mul-result-5
 mul-result-5 c = search needs
 
 shared-slice-read-result-5 : tie.Need-shared-slice-read-result-5
-shared-slice-read-result-5 c = omega (arith, c .before .before .pre .1 .priority (c .before .match .keys9))
+shared-slice-read-result-5 c = omega (arith, c .before .before .pre .1 .rows .priority-has (c .before .match .keys9))
 
 mul-result-6 : tie.Need-mul-result-6
 mul-result-6 c = search needs
 
 shared-slice-read-result-6 : tie.Need-shared-slice-read-result-6
-shared-slice-read-result-6 c = omega (arith, c .before .before .pre .1 .time (c .before .match .keys10))
+shared-slice-read-result-6 c = omega (arith, c .before .before .pre .1 .rows .time-has (c .before .match .keys10))
 
 returns : tie.Need-returns
 unfolding valuesDue

@@ -1,5 +1,5 @@
 use Rattle.ticks.specs.StepsLaws.{after-four, steps-made, bytes-made}
-use Rattle.ticks.specs.Steps.{ran, readied}
+use Rattle.ticks.specs.Steps.{ran, readied, stepped}
 use Rattle.guards.proofs.Sizes.{sizes}
 use Rattle.guards.specs.Machine.{opened}
 use Rattle.guards.specs.Moment.{momentOf}
@@ -49,7 +49,7 @@ same-length c = search needs
 
 -- src/tick.rt:19:1
 returns : tie.Need-returns
-unfolding readied
+unfolding readied stepped
 returns c = let s = c .before .before .before .before .before .before .before .before .before .before .before .before in
     let z = sizes (s .args .state) _ (s .good .1 .1 .1 .1 .0) in
     let e₁ = c .before .before .before .before .before .before .before .work .ensures in

@@ -1,4 +1,3 @@
-use borrow.Author.Tests.{not-true, not-false}
 use native.Mathlib.Omega.{arith}
 use borrow.Author.Needs.{needs}
 use Rattle.ticks.proofs.work.used_after.Statement.{statement}
@@ -6,21 +5,21 @@ use Rattle.ticks.proofs.work.used_after.Tie as tie
 use Rattle.ticks.proofs.work.used_after.Reads as reads
 use Rattle.ticks.proofs.work.used_after.Lts as lts
 
--- src/work.rt:31:9
+-- src/work.rt:32:13
 returns : tie.Need-returns
-returns c = rw (not-true (c .before .args .runs) (c .if1 .taken))
+returns c = rw (c .before .if1 .taken, c .if2 .taken)
 
--- src/work.rt:34:9
-returns-2 : tie.Need-returns-2
-returns-2 c = rw (not-false (c .before .before .args .runs) (c .before .if1 .left), c .if2 .taken)
-
--- src/work.rt:36:5
+-- src/work.rt:34:16
 add-result : tie.Need-add-result
 add-result c = search needs
 
+-- src/work.rt:34:9
+returns-2 : tie.Need-returns-2
+returns-2 c = rw (c .before .if1 .taken, c .if2 .left)
+
 -- src/work.rt:26:1
 returns-3 : tie.Need-returns-3
-returns-3 c = rw (not-false (c .before .before .args .runs) (c .before .if1 .left), c .if2 .left)
+returns-3 c = rw (c .if1 .left)
 
 pub used-after-spec : {M : Type 1} → statement M
-used-after-spec = tie.close (tie.spec returns returns-2 add-result returns-3)
+used-after-spec = tie.close (tie.spec returns add-result returns-2 returns-3)

@@ -1,0 +1,14 @@
+use Rattle.bounds.specs.ClimbLaws.{zeros-of}
+use native.Mathlib.Omega.{arith}
+use borrow.Author.Needs.{needs}
+use Rattle.bounds.proofs.level.zeros.Statement.{statement}
+use Rattle.bounds.proofs.level.zeros.Tie as tie
+use Rattle.bounds.proofs.level.zeros.Reads as reads
+use Rattle.bounds.proofs.level.zeros.Lts as lts
+
+-- src/level.rt:23:1
+returns : tie.Need-returns
+returns c = zeros-of
+
+pub zeros-spec : {M : Type 1} → statement M
+zeros-spec = tie.close (tie.spec returns)

@@ -1,0 +1,107 @@
+-- Laws of the layouts: parts put together are the whole.
+use Prim.Native.Nat.{ℕ, min}
+use mathlib.Core.Path.{_≡_, refl, _∙_, ap}
+use mathlib.Core.List.{List}
+use lib.ListN.{replicate}
+use Rattle.facts.specs.Sums.{sum}
+use Rattle.words.specs.Words.{word, withWord, gathered, withField}
+use Rattle.table.specs.declared.refusal.Refusal.{Refusal}
+use Rattle.table.specs.Table.{tableOf, at}
+use Rattle.table.specs.Refusals.{numberOf, placeOf}
+use Rattle.guards.specs.declared.state.State.{State}
+use Rattle.guards.specs.declared.state.Answer.the-variants.{Taken, Refused}
+use Rattle.guards.specs.declared.state.Outcome.{Outcome}
+use Rattle.rack.specs.declared.answer.RackAnswer.{RackAnswer}
+use Rattle.rack.specs.Layouts.{tasksIn, taskField, rowsIn, rowField, tableIn, stateIn, withState}
+use Rattle.rack.specs.RackCalls.{StateOutcome, PlanReported, refusedAs, reportedAs, answeredAs, listAfter, keptIn}
+use Rattle.report.specs.declared.Reporting.{Reporting}
+use Rattle.report.specs.declared.Reporting.the-variants.{Bytes}
+use Rattle.report.specs.declared.Reporting.the-variants as reporting
+use Rattle.report.specs.Reporting.{FileReported}
+
+-- The six lists of a table.
+pub record SixLists : Type 0 where
+  pub period : List ℕ
+  pub deadline : List ℕ
+  pub steps : List ℕ
+  pub processor : List ℕ
+  pub priority : List ℕ
+  pub time : List ℕ
+
+-- The lists after have the fields of the table list over the lists before, and there are so many rows.
+pub record TableLists (l : List ℕ) (n : ℕ) (before after : SixLists) : Type 0 where
+  pub period : after .period ≡ gathered l 2 3 (tasksIn l) (before .period)
+  pub deadline : after .deadline ≡ gathered l 3 3 (tasksIn l) (before .deadline)
+  pub steps : after .steps ≡ gathered l 4 3 (tasksIn l) (before .steps)
+  pub rows : n ≡ min (sum (tasksIn l) (at (after .steps))) 128
+  pub processor : after .processor ≡ gathered l 98 3 n (before .processor)
+  pub priority : after .priority ≡ gathered l 99 3 n (before .priority)
+  pub time : after .time ≡ gathered l 100 3 n (before .time)
+
+-- Over lists of zeros they are the lists of the table that the list holds.
+abbrev pub blankLists : SixLists
+blankLists = record {
+  period = replicate 32 0;
+  deadline = replicate 32 0;
+  steps = replicate 32 0;
+  processor = replicate 128 0;
+  priority = replicate 128 0;
+  time = replicate 128 0;
+}
+
+pub record TableHeld (l : List ℕ) (n : ℕ) (after : SixLists) : Type 0 where
+  pub rows : n ≡ rowsIn l
+  pub table : (processors tasks : ℕ) → processors ≡ word l 0 → tasks ≡ word l 1
+      → tableOf processors tasks (after .period) (after .deadline) (after .steps) (after .processor) (after .priority) (after .time) ≡ tableIn l
+
+pub table-held : (l : List ℕ) (n : ℕ) (after : SixLists) → TableLists l n blankLists after → TableHeld l n after
+unfolding rowsIn tableIn taskField rowField
+table-held l n after t = record { rows = rows; table = λ p k e f. rw (e, f, t .period, t .deadline, t .steps, t .processor, t .priority, t .time, rows) }
+  where
+    rows : n ≡ rowsIn l
+    rows = t .rows ∙ ap (λ (s : List ℕ). min (sum (tasksIn l) (at s)) 128) (t .steps)
+
+pub refused-made : (refusal : Refusal) {n v : ℕ} → n ≡ numberOf refusal → v ≡ placeOf refusal
+    → _≡_ {A = RackAnswer} (record { number = n; value = v }) (refusedAs refusal)
+unfolding refusedAs
+refused-made refusal e f = rw (e, f)
+
+pub state-made : (n : ℕ) (l : List ℕ) {clock : ℕ} {released completed used guard : List ℕ}
+    → clock ≡ word l 0
+    → released ≡ gathered l 1 4 n (replicate 128 0)
+    → completed ≡ gathered l 2 4 n (replicate 128 0)
+    → used ≡ gathered l 3 4 n (replicate 128 0)
+    → guard ≡ gathered l 4 4 n (replicate 128 0)
+    → _≡_ {A = State} (record { clock = clock; released = released; completed = completed; used = used; guard = guard }) (stateIn n l)
+unfolding stateIn
+state-made n l a b c d e = rw (a, b, c, d, e)
+
+pub state-kept : (n : ℕ) (σ : State) (l : List ℕ) {l₁ l₂ l₃ l₄ l₅ : List ℕ}
+    → l₁ ≡ withWord l 0 (σ .clock)
+    → l₂ ≡ withField l₁ 1 4 n (σ .released)
+    → l₃ ≡ withField l₂ 2 4 n (σ .completed)
+    → l₄ ≡ withField l₃ 3 4 n (σ .used)
+    → l₅ ≡ withField l₄ 4 4 n (σ .guard)
+    → l₅ ≡ withState n σ l
+unfolding withState
+state-kept n σ l a b c d e = rw (e, d, c, b, a)
+
+pub taken-kept : (n value : ℕ) (o : Outcome) (l : List ℕ) {written : List ℕ} → o .answer ≡ Taken value → written ≡ withState n (o .state) l
+    → _≡_ {A = StateOutcome} (record { answer = record { number = 0; value = value }; state = written }) (keptIn n l o)
+unfolding keptIn answeredAs listAfter
+taken-kept n value o l e f = rw (e, f)
+
+pub refused-kept : (n : ℕ) (refusal : Refusal) (o : Outcome) {l : List ℕ} {a : RackAnswer} → o .answer ≡ Refused refusal → a ≡ refusedAs refusal
+    → _≡_ {A = StateOutcome} (record { answer = a; state = l }) (keptIn n l o)
+unfolding keptIn answeredAs listAfter
+refused-kept n refusal o e f = rw (e, f)
+
+pub bytes-reported : {file before after : List ℕ} {count : ℕ} {r : Reporting} → r ≡ Bytes count
+    → FileReported file before (record { answer = r; out = after }) → PlanReported file before (record { number = 0; value = count }) after
+unfolding reportedAs
+bytes-reported {r = r} e f = record { reporting = r; answered = rw e; reported = f }
+
+pub refusal-reported : {file before after : List ℕ} {refusal : Refusal} {r : Reporting} {a : RackAnswer} → r ≡ reporting.Refused refusal
+    → a ≡ refusedAs refusal → FileReported file before (record { answer = r; out = after }) → PlanReported file before a after
+unfolding reportedAs
+refusal-reported {r = r} e g f = record { reporting = r; answered = rw (e, g); reported = f }

@@ -1,0 +1,7 @@
+pub mod Layouts
+pub mod RackCalls
+pub mod LayoutsLaws
+pub mod GuardedLaws
+pub mod TableLaws
+pub mod TickLaws
+pub mod OutcomesLaws

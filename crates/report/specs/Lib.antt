@@ -1,0 +1,12 @@
+pub mod Load
+pub mod Report
+pub mod LoadLaws
+pub mod Listed
+pub mod ReportLaws
+pub mod FiguresLaws
+pub mod Reporting
+pub mod ReportingLaws
+pub mod ViewedLaws
+pub mod BoundedLaws
+pub mod AgreeLaws
+pub mod FileReportLaws
