@@ -5,8 +5,9 @@
 //!     bench/run               everything, a few minutes
 //!     bench/run --full        the model's bounds of the slow plans too, however long they take
 //!
-//! Slow plans are the files of `bench/plans`. On them the model gets a time limit, and a ratio is
-//! then an upper one; the archive runs in a process of its own and gets a limit too.
+//! Times are processor time, so that other work on the machine disturbs them less. Slow plans are
+//! the files of `bench/plans`. On them the model gets a time limit, and a ratio is then an upper
+//! one; the archive runs in a process of its own and gets a limit too.
 
 use rack_model::bounds::Level;
 use rack_model::guards;
@@ -18,8 +19,8 @@ use rack_tests::random::Random;
 use std::process::{Command, Stdio};
 use std::time::{Duration, Instant};
 
-/// How long the model may take for a slow plan, and the archive.
-const MODEL_LIMIT: Duration = Duration::from_secs(20);
+/// How long the model may take for a slow plan in processor time, and the archive in real time.
+const MODEL_LIMIT: f64 = 20.0;
 const ARCHIVE_LIMIT: Duration = Duration::from_secs(120);
 
 const REPORT_BYTES: usize = 9500;
@@ -34,7 +35,7 @@ fn main() {
             std::process::exit(2);
         }
     }
-    let limit = if words.is_empty() { MODEL_LIMIT } else { Duration::MAX };
+    let limit = if words.is_empty() { MODEL_LIMIT } else { f64::INFINITY };
     println!("{:44} {:>9} {:>12} {:>12}", "archive time / model time", "ratio", "archive", "model");
     reports();
     reading();
@@ -42,6 +43,23 @@ fn main() {
         guard_calls(rows);
     }
     slow_plans(limit);
+}
+
+/// Seconds of processor time that this process has used.
+fn used() -> f64 {
+    #[repr(C)]
+    struct Time {
+        seconds: i64,
+        nanoseconds: i64,
+    }
+    extern "C" {
+        fn clock_gettime(clock: i32, time: *mut Time) -> i32;
+    }
+    const OF_THE_PROCESS: i32 = 2;
+    let mut time = Time { seconds: 0, nanoseconds: 0 };
+    let failed = unsafe { clock_gettime(OF_THE_PROCESS, &mut time) };
+    assert_eq!(failed, 0);
+    time.seconds as f64 + time.nanoseconds as f64 / 1e9
 }
 
 fn line(name: &str, archive: f64, model: f64) {
@@ -62,13 +80,13 @@ fn shown(seconds: f64) -> String {
 fn both(mut archive: impl FnMut(), mut model: impl FnMut()) -> (f64, f64) {
     let mut best = (f64::MAX, f64::MAX);
     let round = |side: &mut dyn FnMut()| {
-        let start = Instant::now();
+        let start = used();
         let mut times = 0u32;
-        while start.elapsed() < Duration::from_millis(60) {
+        while used() - start < 0.06 {
             side();
             times += 1;
         }
-        start.elapsed().as_secs_f64() / f64::from(times)
+        (used() - start) / f64::from(times)
     };
     for _ in 0..12 {
         best.0 = best.0.min(round(&mut archive));
@@ -217,7 +235,7 @@ fn guard_calls(rows: usize) {
     line(&format!("arrivals, {rows} rows"), archive / calls, model / calls);
 }
 
-fn slow_plans(limit: Duration) {
+fn slow_plans(limit: f64) {
     let folder = concat!(env!("CARGO_MANIFEST_DIR"), "/plans");
     let mut paths: Vec<_> = std::fs::read_dir(folder)
         .unwrap()
@@ -247,17 +265,17 @@ fn slow_plans(limit: Duration) {
 
 /// The model's time for the bounds of a plan row by row, up to a limit, and how many rows were
 /// done. A row without a busy length ends the plan.
-fn model_within(table: &Table, limit: Duration) -> (f64, usize) {
-    let start = Instant::now();
+fn model_within(table: &Table, limit: f64) -> (f64, usize) {
+    let start = used();
     for row in 0..table.rows.len() {
         if std::hint::black_box(Level::of(table, row).row_bound()).is_none() {
-            return (start.elapsed().as_secs_f64(), table.rows.len());
+            break;
         }
-        if start.elapsed() > limit {
-            return (start.elapsed().as_secs_f64(), row + 1);
+        if used() - start > limit {
+            return (used() - start, row + 1);
         }
     }
-    (start.elapsed().as_secs_f64(), table.rows.len())
+    (used() - start, table.rows.len())
 }
 
 /// The archive's time for a report, in a process of its own; none if it passes the limit.
@@ -280,7 +298,7 @@ fn archive_apart(path: &str) -> Option<f64> {
 fn archive_alone(path: &str) {
     let text = std::fs::read(path).unwrap();
     let mut out = vec![0; REPORT_BYTES];
-    let start = Instant::now();
+    let start = used();
     sink(archive::plan_report(&text, &mut out));
-    println!("{}", start.elapsed().as_secs_f64());
+    println!("{}", used() - start);
 }
