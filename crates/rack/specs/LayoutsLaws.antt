@@ -6,7 +6,7 @@ use lib.ListN.{replicate}
 use Rattle.facts.specs.Sums.{sum}
 use Rattle.words.specs.Words.{word, withWord, gathered, withField}
 use Rattle.table.specs.declared.refusal.Refusal.{Refusal}
-use Rattle.table.specs.Table.{tableOf, at}
+use Rattle.table.specs.Table.{Table, tableOf, at}
 use Rattle.table.specs.Refusals.{numberOf, placeOf}
 use Rattle.guards.specs.declared.state.State.{State}
 use Rattle.guards.specs.declared.state.Answer.the-variants.{Taken, Refused}
@@ -19,47 +19,29 @@ use Rattle.report.specs.declared.Reporting.the-variants.{Bytes}
 use Rattle.report.specs.declared.Reporting.the-variants as reporting
 use Rattle.report.specs.Reporting.{FileReported}
 
--- The six lists of a table.
-pub record SixLists : Type 0 where
-  pub period : List ℕ
-  pub deadline : List ℕ
-  pub steps : List ℕ
-  pub processor : List ℕ
-  pub priority : List ℕ
-  pub time : List ℕ
+-- The rows of a table that a list has room for.
+abbrev pub rowsHeld : Table → ℕ
+rowsHeld T = min (sum (min (T .tasks) 32) (at (T .steps))) 128
 
--- The lists after have the fields of the table list over the lists before, and there are so many rows.
-pub record TableLists (l : List ℕ) (n : ℕ) (before after : SixLists) : Type 0 where
-  pub period : after .period ≡ gathered l 2 3 (tasksIn l) (before .period)
-  pub deadline : after .deadline ≡ gathered l 3 3 (tasksIn l) (before .deadline)
-  pub steps : after .steps ≡ gathered l 4 3 (tasksIn l) (before .steps)
-  pub rows : n ≡ min (sum (tasksIn l) (at (after .steps))) 128
-  pub processor : after .processor ≡ gathered l 98 3 n (before .processor)
-  pub priority : after .priority ≡ gathered l 99 3 n (before .priority)
-  pub time : after .time ≡ gathered l 100 3 n (before .time)
+pub rows-held : (l : List ℕ) {T : Table} → T ≡ tableIn l → rowsHeld T ≡ rowsIn l
+unfolding rowsIn tasksIn tableIn
+rows-held l e = rw e
 
--- Over lists of zeros they are the lists of the table that the list holds.
-abbrev pub blankLists : SixLists
-blankLists = record {
-  period = replicate 32 0;
-  deadline = replicate 32 0;
-  steps = replicate 32 0;
-  processor = replicate 128 0;
-  priority = replicate 128 0;
-  time = replicate 128 0;
-}
-
-pub record TableHeld (l : List ℕ) (n : ℕ) (after : SixLists) : Type 0 where
-  pub rows : n ≡ rowsIn l
-  pub table : (processors tasks : ℕ) → processors ≡ word l 0 → tasks ≡ word l 1
-      → tableOf processors tasks (after .period) (after .deadline) (after .steps) (after .processor) (after .priority) (after .time) ≡ tableIn l
-
-pub table-held : (l : List ℕ) (n : ℕ) (after : SixLists) → TableLists l n blankLists after → TableHeld l n after
-unfolding rowsIn tableIn taskField rowField
-table-held l n after t = record { rows = rows; table = λ p k e f. rw (e, f, t .period, t .deadline, t .steps, t .processor, t .priority, t .time, rows) }
-  where
-    rows : n ≡ rowsIn l
-    rows = t .rows ∙ ap (λ (s : List ℕ). min (sum (tasksIn l) (at s)) 128) (t .steps)
+-- A table's counts and lists read one field after another.
+pub table-read : (l : List ℕ) {processors tasks chains rows : ℕ} {period deadline steps processor priority time : List ℕ}
+    → processors ≡ word l 0
+    → tasks ≡ word l 1
+    → chains ≡ min tasks 32
+    → period ≡ gathered l 2 3 chains (replicate 32 0)
+    → deadline ≡ gathered l 3 3 chains (replicate 32 0)
+    → steps ≡ gathered l 4 3 chains (replicate 32 0)
+    → rows ≡ min (sum chains (at steps)) 128
+    → processor ≡ gathered l 98 3 rows (replicate 128 0)
+    → priority ≡ gathered l 99 3 rows (replicate 128 0)
+    → time ≡ gathered l 100 3 rows (replicate 128 0)
+    → tableOf processors tasks period deadline steps processor priority time ≡ tableIn l
+unfolding rowsIn tasksIn tableIn taskField rowField
+table-read l a b c d e f g h i j = rw (j, i, h, g, f, e, d, c, b, a)
 
 pub refused-made : (refusal : Refusal) {n v : ℕ} → n ≡ numberOf refusal → v ≡ placeOf refusal
     → _≡_ {A = RackAnswer} (record { number = n; value = v }) (refusedAs refusal)

@@ -3,5 +3,5 @@ pub mod RackCalls
 pub mod LayoutsLaws
 pub mod GuardedLaws
 pub mod TableLaws
-pub mod TickLaws
+pub mod CallLaws
 pub mod OutcomesLaws

@@ -2,7 +2,7 @@
 use Prim.Native.Nat.{ℕ}
 use mathlib.Core.Bool.{Bool, cond, not, _&&_}
 use mathlib.Core.Path.{_≡_}
-use mathlib.Core.List.{List}
+use mathlib.Core.List.{List, []}
 use lib.Dec.{ltb, eqb}
 use lib.ListN.{length, replicate}
 use Rattle.table.specs.Table.{Table, rows, isPlan}
@@ -21,8 +21,11 @@ use Rattle.report.specs.Reporting.{FileReported}
 use Rattle.guards.specs.declared.state.Answer.{Answer}
 use Rattle.guards.specs.declared.state.Answer.the-variants.{Taken, Refused}
 use Rattle.guards.specs.declared.state.Outcome.{Outcome}
+use Rattle.guards.specs.declared.state.State.{State}
 use Rattle.guards.specs.Calls.{freshStart, arrive, tick, TickOutcome}
 use Rattle.rack.specs.declared.answer.RackAnswer.{RackAnswer}
+use Rattle.rack.specs.declared.calls.Call.{Call}
+use Rattle.rack.specs.declared.calls.Call.the-variants.{Fresh, Arrive, Tick}
 use Rattle.rack.specs.Layouts.{tableBytes, stateBytes, tableIn, withTable, rowsIn, stateIn, withState}
 
 -- A refusal as the host sees it: its number, and its place.
@@ -66,31 +69,39 @@ guarded table state outcome =
     cond (tried table state) outcome
     (record { answer = refusedAs (cond (holdsPlan table) StateDoesNotFit NotAPlan); state = state })
 
--- Fresh start on byte lists.
-unfoldable pub rackFresh : List ℕ → List ℕ → StateOutcome
-rackFresh table state =
-    guarded table state (keptIn (rowsIn table) state (freshStart (tableIn table) (stateIn (rowsIn table) state)))
+-- What the host asks, with the release list: fresh start and arrive leave it.
+unfoldable pub called : Call → Table → State → List ℕ → List ℕ → TickOutcome
+called Fresh T σ done released = record { outcome = freshStart T σ; released = released }
+called (Arrive task) T σ done released = record { outcome = arrive T σ task; released = released }
+called Tick T σ done released = tick T σ done released
 
--- Arrive on byte lists.
-unfoldable pub rackArrive : List ℕ → List ℕ → ℕ → StateOutcome
-rackArrive table state task =
-    guarded table state (keptIn (rowsIn table) state (arrive (tableIn table) (stateIn (rowsIn table) state) task))
-
--- A tick's answer and state list with the release list.
+-- A call's answer and state list with the release list.
 pub record RackTickOutcome : Type 0 where
   pub outcome : StateOutcome
   pub released : List ℕ
 
--- The tick of the state that the lists hold.
-unfoldable pub tickIn : List ℕ → List ℕ → List ℕ → List ℕ → TickOutcome
-tickIn table state done released = tick (tableIn table) (stateIn (rowsIn table) state) done released
+-- The call on the table and the state that the lists hold.
+unfoldable pub calledIn : Call → List ℕ → List ℕ → List ℕ → List ℕ → TickOutcome
+calledIn call table state done released = called call (tableIn table) (stateIn (rowsIn table) state) done released
+
+-- A call on byte lists.
+unfoldable pub rackCall : Call → List ℕ → List ℕ → List ℕ → List ℕ → RackTickOutcome
+rackCall call table state done released = record {
+  outcome = guarded table state (keptIn (rowsIn table) state (calledIn call table state done released .outcome));
+  released = cond (tried table state) (calledIn call table state done released .released) released;
+}
+
+-- Fresh start on byte lists.
+unfoldable pub rackFresh : List ℕ → List ℕ → StateOutcome
+rackFresh table state = rackCall Fresh table state [] [] .outcome
+
+-- Arrive on byte lists.
+unfoldable pub rackArrive : List ℕ → List ℕ → ℕ → StateOutcome
+rackArrive table state task = rackCall (Arrive task) table state [] [] .outcome
 
 -- Tick on byte lists.
 unfoldable pub rackTick : List ℕ → List ℕ → List ℕ → List ℕ → RackTickOutcome
-rackTick table state done released = record {
-  outcome = guarded table state (keptIn (rowsIn table) state (tickIn table state done released .outcome));
-  released = cond (tried table state) (tickIn table state done released .released) released;
-}
+rackTick = rackCall Tick
 
 -- The answer of reading a file into a table list, and the list as it then is.
 pub record TableOutcome : Type 0 where

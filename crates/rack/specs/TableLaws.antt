@@ -1,5 +1,5 @@
 -- A file read into a table list.
-use Prim.Native.Nat.{ℕ, _≤_, _<_}
+use Prim.Native.Nat.{ℕ, min, _≤_, _<_}
 use borrow.Author.Tests.{le-ltb, lt-ltb}
 use mathlib.Core.Path.{_≡_, refl, sym, _∙_, ap, subst}
 use mathlib.Core.Bool.{true}
@@ -34,10 +34,16 @@ read-plan file l c o e f =
     (wrote (tableIn c (read file l .lists)) file (length file)
     (ap (λ (w : WriteOutcome). w .answer) (read-then-write file l c file answer (omega arith))) .plan))
 
+-- The answer is the number of a table's rows, and the list has the table in it.
+pub record TablePut (T : Table) (before : List ℕ) (answer : RackAnswer) (after : List ℕ) : Type 0 where
+  pub answered : answer ≡ record { number = 0; value = rows T }
+  pub list : after ≡ withTable T before
+
 -- The words of a table written one field after another.
-pub table-kept :
+pub table-put :
     (T : Table) (n : ℕ) (l : List ℕ) {l₁ l₂ l₃ l₄ l₅ l₆ l₇ l₈ : List ℕ}
-    → n ≡ sum (T .tasks) (at (T .steps))
+    → sum (T .tasks) (at (T .steps)) ≤ 128
+    → n ≡ min (sum (T .tasks) (at (T .steps))) 128
     → l₁ ≡ withWord l 0 (T .processors)
     → l₂ ≡ withWord l₁ 1 (T .tasks)
     → l₃ ≡ withField l₂ 2 3 (T .tasks) (T .period)
@@ -46,9 +52,12 @@ pub table-kept :
     → l₆ ≡ withField l₅ 98 3 n (T .processor)
     → l₇ ≡ withField l₆ 99 3 n (T .priority)
     → l₈ ≡ withField l₇ 100 3 n (T .time)
-    → l₈ ≡ withTable T l
+    → TablePut T l (record { number = 0; value = n }) l₈
 unfolding withTable rows firstRow
-table-kept T n l e a b c d f g h i = rw (i, h, g, f, d, c, b, a, e)
+table-put T n l few e a b c d f g h i = record { answered = rw all; list = rw (i, h, g, f, d, c, b, a, all) }
+  where
+    all : n ≡ sum (T .tasks) (at (T .steps))
+    all = omega arith
 
 -- A list shorter than the layout, a file that was read, and one that was refused.
 pub list-short : (file list : List ℕ) {a : RackAnswer} → length list < tableBytes → a ≡ refusedAs (TooShort tableBytes)
@@ -61,11 +70,10 @@ module _ (file list : List ℕ) (h : tableBytes ≤ length list) (o : ReadOutcom
   unfolding rackTable
   long-enough = rw (le-ltb (length list) tableBytes h, e)
 
-  pub read-kept : (c : Counts) {n : ℕ} {written : List ℕ}
-      → o .answer ≡ Read c → n ≡ rows (tableIn c (o .lists)) → written ≡ withTable (tableIn c (o .lists)) list
-      → _≡_ {A = TableOutcome} (record { answer = record { number = 0; value = n }; table = written }) (rackTable file list)
+  pub read-kept : (c : Counts) {a : RackAnswer} {written : List ℕ} → o .answer ≡ Read c → TablePut (tableIn c (o .lists)) list a written
+      → _≡_ {A = TableOutcome} (record { answer = a; table = written }) (rackTable file list)
   unfolding tableFrom
-  read-kept c f g k = rw (long-enough, f, g, k)
+  read-kept c f p = rw (long-enough, f, p .answered, p .list)
 
   pub refusal-kept : (r : Refusal) {a : RackAnswer} → o .answer ≡ Refused r → a ≡ refusedAs r
       → _≡_ {A = TableOutcome} (record { answer = a; table = list }) (rackTable file list)

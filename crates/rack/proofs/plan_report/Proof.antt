@@ -6,7 +6,7 @@ use Rattle.rack.proofs.plan_report.Statement.{statement}
 use Rattle.rack.proofs.plan_report.Tie as tie
 use Rattle.rack.proofs.plan_report.Reads as reads
 use Rattle.rack.proofs.plan_report.Lts as lts
-use Rattle.rack.proofs.refused.Reads as refused-reads
+use Rattle.rack.proofs.answer.refused.Reads as refused-reads
 use Rattle.report.proofs.report_file.Reads as report-file-reads
 
 -- src/lib.rt:411:9

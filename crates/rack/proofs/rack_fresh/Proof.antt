@@ -1,198 +1,33 @@
-use Rattle.guards.specs.declared.state.State.{State}
-use Rattle.guards.specs.declared.state.Answer.the-variants.{Refused}
-use Rattle.table.specs.declared.refusal.Refusal.the-variants.{NotAPlan}
-use mathlib.Core.Bool.{Bool, false}
-use Rattle.guards.specs.Calls.{freshStart}
-use Rattle.table.specs.Table.{Table, isPlan}
-use Rattle.rack.specs.LayoutsLaws.{table-held}
-use Rattle.rack.specs.GuardedLaws.{refused-table, refused-state, call-kept}
-use Rattle.rack.specs.RackCalls.{rackFresh, guarded, tried, holdsPlan, keptIn}
-use mathlib.Core.Path.{_≡_, sym, refl, _∙_, ap}
+use Rattle.rack.specs.CallLaws.{fresh-alone}
 use native.Mathlib.Omega.{arith}
 use borrow.Author.Needs.{needs}
 use Rattle.rack.proofs.rack_fresh.Statement.{statement}
 use Rattle.rack.proofs.rack_fresh.Tie as tie
 use Rattle.rack.proofs.rack_fresh.Reads as reads
 use Rattle.rack.proofs.rack_fresh.Lts as lts
-use Rattle.guards.proofs.fresh.fresh_start.Reads as fresh-start-reads
-use Rattle.rack.proofs.put_outcome.Reads as put-outcome-reads
-use Rattle.rack.proofs.refused.Reads as refused-reads
-use Rattle.rack.proofs.state_in.Reads as state-in-reads
-use Rattle.rack.proofs.table_in.Reads as table-in-reads
-use Rattle.rack.proofs.untried.Reads as untried-reads
-use Rattle.table.proofs.plan.is_plan.Reads as is-plan-reads
-use Rattle.words.proofs.get.Reads as get-reads
+use Rattle.rack.proofs.calls.make.Reads as make-reads
 
--- src/lib.rt:166:9
-refused-requires : tie.Need-refused-requires
-refused-requires c κs = search needs
+-- src/lib.rt:82:37
+slice-aggregate-make : tie.Need-slice-aggregate-make
+slice-aggregate-make c = search needs
 
-fresh-no-plan : (T : Table) (σ : State) → isPlan T ≡ false → freshStart T σ .answer ≡ Refused NotAPlan
-unfolding freshStart
-fresh-no-plan T σ e = rw e
+-- src/lib.rt:82:44
+slice-aggregate-make-2 : tie.Need-slice-aggregate-make-2
+slice-aggregate-make-2 c = search needs
 
--- src/lib.rt:166:9
-returns : tie.Need-returns
-unfolding rackFresh
-returns c = refused-table _ _ _ (c .before .if1 .taken) (c .refused .ensures)
+-- src/lib.rt:82:5
+make-requires : tie.Need-make-requires
+make-requires c κs = search needs
 
--- src/lib.rt:176:9
-slice-aggregate-table-in : tie.Need-slice-aggregate-table-in
-slice-aggregate-table-in c = search needs
-
--- src/lib.rt:177:9
-slice-aggregate-table-in-2 : tie.Need-slice-aggregate-table-in-2
-slice-aggregate-table-in-2 c = search needs
-
--- src/lib.rt:178:9
-slice-aggregate-table-in-3 : tie.Need-slice-aggregate-table-in-3
-slice-aggregate-table-in-3 c = search needs
-
--- src/lib.rt:179:9
-slice-aggregate-table-in-4 : tie.Need-slice-aggregate-table-in-4
-slice-aggregate-table-in-4 c = search needs
-
--- src/lib.rt:180:9
-slice-aggregate-table-in-5 : tie.Need-slice-aggregate-table-in-5
-slice-aggregate-table-in-5 c = search needs
-
--- src/lib.rt:181:9
-slice-aggregate-table-in-6 : tie.Need-slice-aggregate-table-in-6
-slice-aggregate-table-in-6 c = search needs
-
--- src/lib.rt:174:9
-table-in-requires : tie.Need-table-in-requires
-table-in-requires c κs = search needs
-
--- src/lib.rt:183:9
-get-requires : tie.Need-get-requires
-get-requires c κs = search needs
-
--- src/lib.rt:184:9
-get-requires-2 : tie.Need-get-requires-2
-get-requires-2 c κs = search needs
-
--- src/lib.rt:189:13
-slice-aggregate-is-plan : tie.Need-slice-aggregate-is-plan
-slice-aggregate-is-plan c = search needs
-
--- src/lib.rt:190:13
-slice-aggregate-is-plan-2 : tie.Need-slice-aggregate-is-plan-2
-slice-aggregate-is-plan-2 c = search needs
-
--- src/lib.rt:191:13
-slice-aggregate-is-plan-3 : tie.Need-slice-aggregate-is-plan-3
-slice-aggregate-is-plan-3 c = search needs
-
--- src/lib.rt:192:13
-slice-aggregate-is-plan-4 : tie.Need-slice-aggregate-is-plan-4
-slice-aggregate-is-plan-4 c = search needs
-
--- src/lib.rt:193:13
-slice-aggregate-is-plan-5 : tie.Need-slice-aggregate-is-plan-5
-slice-aggregate-is-plan-5 c = search needs
-
--- src/lib.rt:194:13
-slice-aggregate-is-plan-6 : tie.Need-slice-aggregate-is-plan-6
-slice-aggregate-is-plan-6 c = search needs
-
--- src/lib.rt:186:24
-is-plan-requires : tie.Need-is-plan-requires
-is-plan-requires c κs = search needs
-
--- src/lib.rt:186:9
-untried-requires : tie.Need-untried-requires
-untried-requires c κs = search needs
-
--- src/lib.rt:186:9
-returns-2 : tie.Need-returns-2
-unfolding rackFresh
-returns-2 c =
-    let held = table-held _ _ _ (c .before .before .before .before .before .before .before .before .before .before .before .before .before .before .before .before .before .table-in .ensures) in
-    refused-state _ _ _ (c .before .before .before .before .before .before .before .before .before .before .before .before .before .before .before .before .before .before .before .before .before .before .before .before .if1 .left) (c .before .before .before .before .before .before .before .before .if2 .taken)
-    (c .before .is-plan .ensures ∙ ap (λ (T : Table). isPlan T) (held .table _ _ (c .before .before .before .before .before .before .before .before .before .before .get .ensures) (c .before .before .before .before .before .before .before .before .before .get2 .ensures)))
-    (c .untried .ensures)
-
--- src/lib.rt:197:9
-state-in-requires : tie.Need-state-in-requires
-state-in-requires c κs = search needs
-
--- src/lib.rt:201:9
-slice-aggregate-fresh-start : tie.Need-slice-aggregate-fresh-start
-slice-aggregate-fresh-start c = search needs
-
--- src/lib.rt:202:9
-slice-aggregate-fresh-start-2 : tie.Need-slice-aggregate-fresh-start-2
-slice-aggregate-fresh-start-2 c = search needs
-
--- src/lib.rt:203:9
-slice-aggregate-fresh-start-3 : tie.Need-slice-aggregate-fresh-start-3
-slice-aggregate-fresh-start-3 c = search needs
-
--- src/lib.rt:204:9
-slice-aggregate-fresh-start-4 : tie.Need-slice-aggregate-fresh-start-4
-slice-aggregate-fresh-start-4 c = search needs
-
--- src/lib.rt:205:9
-slice-aggregate-fresh-start-5 : tie.Need-slice-aggregate-fresh-start-5
-slice-aggregate-fresh-start-5 c = search needs
-
--- src/lib.rt:206:9
-slice-aggregate-fresh-start-6 : tie.Need-slice-aggregate-fresh-start-6
-slice-aggregate-fresh-start-6 c = search needs
-
--- src/lib.rt:198:9
-fresh-start-requires : tie.Need-fresh-start-requires
-fresh-start-requires c κs = search needs
-
--- src/lib.rt:209:5
-put-outcome-requires : tie.Need-put-outcome-requires
-put-outcome-requires c κs = search needs
-
--- src/lib.rt:161:1
+-- src/lib.rt:76:1
 same-length : tie.Need-same-length
 same-length c = search needs
 
--- src/lib.rt:161:1
-returns-3 : tie.Need-returns-3
-unfolding rackFresh
-returns-3 c =
-    let held = table-held _ _ _ (c .before .before .before .before .before .before .before .before .before .before .before .before .before .before .before .before .before .before .before .before .before .before .table-in .ensures) in
-    call-kept _ _ freshStart (c .before .before .before .before .before .before .before .before .before .before .before .before .before .before .before .before .before .before .before .before .before .before .before .before .before .before .before .before .before .if1 .left) (c .before .before .before .before .before .before .before .before .before .before .before .before .before .if2 .left) fresh-no-plan (held .rows)
-    (held .table _ _ (c .before .before .before .before .before .before .before .before .before .before .before .before .before .before .before .get .ensures) (c .before .before .before .before .before .before .before .before .before .before .before .before .before .before .get2 .ensures)) (c .before .before .before .before .before .before .before .before .before .before .before .state-in .ensures) (c .before .before .before .before .fresh-start .ensures) (c .before .before .put-outcome .ensures)
+-- src/lib.rt:76:1
+returns : tie.Need-returns
+returns c = fresh-alone _ _ _ _ (c .before .before .before .make .ensures)
 
 pub rack-fresh-spec : {M : Type 1} → statement M
 rack-fresh-spec =
     tie.close
-    (tie.spec
-    refused-requires
-    returns
-    slice-aggregate-table-in
-    slice-aggregate-table-in-2
-    slice-aggregate-table-in-3
-    slice-aggregate-table-in-4
-    slice-aggregate-table-in-5
-    slice-aggregate-table-in-6
-    table-in-requires
-    get-requires
-    get-requires-2
-    slice-aggregate-is-plan
-    slice-aggregate-is-plan-2
-    slice-aggregate-is-plan-3
-    slice-aggregate-is-plan-4
-    slice-aggregate-is-plan-5
-    slice-aggregate-is-plan-6
-    is-plan-requires
-    untried-requires
-    returns-2
-    state-in-requires
-    slice-aggregate-fresh-start
-    slice-aggregate-fresh-start-2
-    slice-aggregate-fresh-start-3
-    slice-aggregate-fresh-start-4
-    slice-aggregate-fresh-start-5
-    slice-aggregate-fresh-start-6
-    fresh-start-requires
-    put-outcome-requires
-    same-length
-    returns-3)
+    (tie.spec slice-aggregate-make slice-aggregate-make-2 make-requires same-length returns)

@@ -1,0 +1,8 @@
+// A table by value: its counts and its columns, one for each number of a task or a row, and the calls on such a table.
+
+pub mod arrive;
+pub mod columns;
+pub mod fresh;
+pub mod outcome;
+pub mod plan;
+pub mod tick;

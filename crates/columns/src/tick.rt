@@ -1,0 +1,35 @@
+// The call tick on a table by value.
+
+use crate::columns::Columns;
+use guards::state::Outcome;
+use guards::state::State;
+use ticks::tick as ticking;
+ghost use mathlib.Core.Path.{_≡_};
+ghost use Rattle.guards.specs.Calls as calls;
+ghost use Rattle.guards.specs.Calls.{TickOutcome};
+ghost use Rattle.columns.specs.Columns.{tableIn};
+
+// One tick. The done list has a byte for each processor, and the release list gets one for each row.
+pub fn tick(columns: Columns, state: State, done: &[u8], released: &mut [u8]) -> Outcome
+    ensures { λ r. ⌜ _≡_ {A = TickOutcome} (record { outcome = r; released = now (released .exit) }) (calls.tick (tableIn columns) state (now (done .entry)) (now (released .entry))) ⌝ }
+{
+    let period = columns.period;
+    let deadline = columns.deadline;
+    let steps = columns.steps;
+    let processor = columns.processor;
+    let priority = columns.priority;
+    let time = columns.time;
+    ticking::tick(
+        columns.processors,
+        columns.tasks,
+        &period,
+        &deadline,
+        &steps,
+        &processor,
+        &priority,
+        &time,
+        state,
+        done,
+        released,
+    )
+}

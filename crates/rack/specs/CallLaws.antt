@@ -1,0 +1,81 @@
+-- A call on byte lists: one that isn't tried, and one that is.
+use Prim.Native.Nat.{ℕ}
+use mathlib.Core.Path.{_≡_, refl, sym, _∙_, ap}
+use mathlib.Core.Bool.{Bool, true, false, cond}
+use mathlib.Core.List.{List}
+use lib.ListN.{length}
+use Rattle.table.specs.Table.{Table, isPlan}
+use Rattle.table.specs.declared.refusal.Refusal.the-variants.{NotAPlan}
+use Rattle.guards.specs.declared.state.State.{State}
+use Rattle.guards.specs.declared.state.Answer.the-variants.{Refused}
+use Rattle.guards.specs.declared.state.Outcome.{Outcome}
+use Rattle.guards.specs.Calls.{freshStart, arrive, tick, TickOutcome}
+use Rattle.rack.specs.declared.calls.Call.{Call}
+use Rattle.rack.specs.declared.calls.Call.the-variants.{Fresh, Arrive, Tick}
+use Rattle.rack.specs.Layouts.{tableBytes, stateBytes, tableIn, rowsIn, stateIn}
+use Rattle.rack.specs.RackCalls.{StateOutcome, RackTickOutcome, tried, keptIn, called, calledIn, rackCall, rackFresh, rackArrive, guarded}
+use Rattle.rack.specs.GuardedLaws.{call-kept, released-stays, released-kept}
+
+-- An outcome and a release list together.
+pub both-kept : {o p : StateOutcome} {r s : List ℕ} → o ≡ p → r ≡ s
+    → _≡_ {A = RackTickOutcome} (record { outcome = o; released = r }) (record { outcome = p; released = s })
+both-kept e f = rw (e, f)
+
+module _ (done released : List ℕ) where
+  -- A call on a table that is no plan is refused and leaves the release list.
+  no-plan : (call : Call) (T : Table) (σ : State) → isPlan T ≡ false → called call T σ done released .outcome .answer ≡ Refused NotAPlan
+  unfolding called freshStart arrive tick
+  no-plan Fresh T σ e = rw e
+  no-plan (Arrive task) T σ e = rw e
+  no-plan Tick T σ e = rw e
+
+  no-plan-released : (call : Call) (T : Table) (σ : State) → isPlan T ≡ false → called call T σ done released .released ≡ released
+  unfolding called tick
+  no-plan-released Fresh T σ e = refl
+  no-plan-released (Arrive task) T σ e = refl
+  no-plan-released Tick T σ e = rw e
+
+  module _ (call : Call) (table state : List ℕ) where
+    -- A call that isn't tried,
+    pub call-untried : {o : StateOutcome} → tried table state ≡ false
+        → o ≡ guarded table state (keptIn (rowsIn table) state (calledIn call table state done released .outcome))
+        → _≡_ {A = RackTickOutcome} (record { outcome = o; released = released }) (rackCall call table state done released)
+    unfolding rackCall
+    call-untried e f = both-kept f (released-stays table state (calledIn call table state done released .released) e)
+
+    -- and one that is, on the table and state that the lists hold.
+    pub call-made : {n : ℕ} {T : Table} {σ : State} {t : TickOutcome} {o : StateOutcome}
+        → length table ≡ tableBytes → length state ≡ stateBytes
+        → n ≡ rowsIn table → T ≡ tableIn table → σ ≡ stateIn n state → t ≡ called call T σ done released → o ≡ keptIn n state (t .outcome)
+        → _≡_ {A = RackTickOutcome} (record { outcome = o; released = t .released }) (rackCall call table state done released)
+    unfolding rackCall calledIn
+    call-made a b en eT eσ et eo =
+        both-kept
+        (call-kept table state (λ T σ. called call T σ done released .outcome) a b (no-plan call) en eT eσ (ap (λ (x : TickOutcome). x .outcome) et) eo)
+        (released-kept table state a b (no-plan-released call (tableIn table) (stateIn (rowsIn table) state))
+        (ap (λ (x : TickOutcome). x .released) et ∙ rw (eσ, eT, en)))
+
+-- Fresh start and arrive read no done list and no release list.
+pub fresh-alone : (table state done released : List ℕ) {o : RackTickOutcome} → o ≡ rackCall Fresh table state done released → o .outcome ≡ rackFresh table state
+unfolding rackFresh rackCall calledIn called
+fresh-alone table state done released e = ap (λ (x : RackTickOutcome). x .outcome) e
+
+pub arrive-alone : (table state done released : List ℕ) (task : ℕ) {o : RackTickOutcome} → o ≡ rackCall (Arrive task) table state done released → o .outcome ≡ rackArrive table state task
+unfolding rackArrive rackCall calledIn called
+arrive-alone table state done released task e = ap (λ (x : RackTickOutcome). x .outcome) e
+
+-- The outcome of a call by what is asked.
+module _ (T : Table) (σ : State) (done released : List ℕ) (call : Call) where
+  pub fresh-called : {o : Outcome} → call ≡ Fresh → o ≡ freshStart T σ
+      → _≡_ {A = TickOutcome} (record { outcome = o; released = released }) (called call T σ done released)
+  unfolding called
+  fresh-called e f = rw (e, f)
+
+  pub arrive-called : (task : ℕ) {o : Outcome} → call ≡ Arrive task → o ≡ arrive T σ task
+      → _≡_ {A = TickOutcome} (record { outcome = o; released = released }) (called call T σ done released)
+  unfolding called
+  arrive-called task e f = rw (e, f)
+
+  pub tick-called : {o : TickOutcome} → call ≡ Tick → o ≡ tick T σ done released → o ≡ called call T σ done released
+  unfolding called
+  tick-called e f = rw (e, f)
