@@ -54,7 +54,7 @@ extern "C" {
 #define RACK_TASKS 32
 #define RACK_ROWS 128
 #define RACK_FILE_BYTES 8192    /* a longer plan file is refused */
-#define RACK_REPORT_BYTES 9500  /* no report is longer */
+#define RACK_REPORT_BYTES 9604  /* no report is longer */
 #define RACK_LAST_CLOCK UINT64_C(1000000000000)
 
 /* What every call answers. number 0: the call was taken, and value is its answer. Any other

@@ -23,7 +23,7 @@ use std::time::{Duration, Instant};
 const MODEL_LIMIT: f64 = 20.0;
 const ARCHIVE_LIMIT: Duration = Duration::from_secs(120);
 
-const REPORT_BYTES: usize = 9500;
+const REPORT_BYTES: usize = 9604;
 
 fn main() {
     let words: Vec<String> = std::env::args().skip(1).collect();

@@ -19,7 +19,7 @@ use std::time::Instant;
 const PROGRAM: &str = "compare-report";
 
 /// A report is never longer in the first edition.
-const ENOUGH: usize = 9500;
+const ENOUGH: usize = 9604;
 
 #[derive(Default)]
 struct Seen {
