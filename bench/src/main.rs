@@ -4,6 +4,7 @@
 //!
 //!     bench/run               everything, a few minutes
 //!     bench/run --full        the model's bounds of the slow plans too, however long they take
+//!     bench/run --times       the times beside each ratio
 //!
 //! Times are processor time, so that other work on the machine disturbs them less. Slow plans are
 //! the files of `bench/plans`. On them the model gets a time limit, and a ratio is then an upper
@@ -17,6 +18,7 @@ use rack_tests::archive;
 use rack_tests::plans::{plan, Kind};
 use rack_tests::random::Random;
 use std::process::{Command, Stdio};
+use std::sync::atomic::{AtomicBool, Ordering};
 use std::time::{Duration, Instant};
 
 /// How long the model may take for a slow plan in processor time, and the archive in real time.
@@ -27,16 +29,16 @@ const REPORT_BYTES: usize = 9604;
 
 fn main() {
     let words: Vec<String> = std::env::args().skip(1).collect();
-    match words.first().map(String::as_str) {
-        Some("--archive") => return archive_alone(&words[1]),
-        Some("--full") | None => {}
-        Some(_) => {
-            eprintln!("usage: rack-bench [--full]");
-            std::process::exit(2);
-        }
+    if words.first().is_some_and(|word| word == "--archive") {
+        return archive_alone(&words[1]);
     }
-    let limit = if words.is_empty() { MODEL_LIMIT } else { f64::INFINITY };
-    println!("{:44} {:>9} {:>12} {:>12}", "archive time / model time", "ratio", "archive", "model");
+    if words.iter().any(|word| word != "--full" && word != "--times") {
+        eprintln!("usage: rack-bench [--full] [--times]");
+        std::process::exit(2);
+    }
+    let limit = if words.iter().any(|word| word == "--full") { f64::INFINITY } else { MODEL_LIMIT };
+    TIMES.store(words.iter().any(|word| word == "--times"), Ordering::Relaxed);
+    row("archive time / model time", "ratio", "archive", "model");
     reports();
     reading();
     for rows in [4, 32, 128] {
@@ -62,8 +64,20 @@ fn used() -> f64 {
     time.seconds as f64 + time.nanoseconds as f64 / 1e9
 }
 
+/// Whether the times are shown beside the ratios.
+static TIMES: AtomicBool = AtomicBool::new(false);
+
+/// One row of the table.
+fn row(name: &str, ratio: &str, archive: &str, model: &str) {
+    if TIMES.load(Ordering::Relaxed) {
+        println!("{name:44} {ratio:>9} {archive:>12} {model:>12}");
+    } else {
+        println!("{name:44} {ratio:>9}");
+    }
+}
+
 fn line(name: &str, archive: f64, model: f64) {
-    println!("{name:44} {:>9.3} {:>12} {:>12}", archive / model, shown(archive), shown(model));
+    row(name, &format!("{:.3}", archive / model), &shown(archive), &shown(model));
 }
 
 /// Seconds in a unit that fits.
@@ -253,11 +267,11 @@ fn slow_plans(limit: f64) {
         match archive {
             Some(seconds) => {
                 let ratio = format!("{}{:.4}", if all { "" } else { "< " }, seconds / model);
-                println!("{name:44} {ratio:>9} {:>12} {model_shown:>12}", shown(seconds));
+                row(&name, &ratio, &shown(seconds), &model_shown);
             }
             None => {
                 let over = format!("> {}", shown(ARCHIVE_LIMIT.as_secs_f64()));
-                println!("{name:44} {:>9} {over:>12} {model_shown:>12}", "?");
+                row(&name, "?", &over, &model_shown);
             }
         }
     }
