@@ -1,6 +1,8 @@
 // Records taken apart: a table by value from lists of records.
 
 use crate::counts::lesser;
+use crate::getters::chain_at;
+use crate::getters::row_at;
 use columns::columns::Chain;
 use columns::columns::Columns;
 use columns::columns::Row;
@@ -18,7 +20,7 @@ pub fn with_chains(columns: Columns, chains: &[Chain]) -> Columns
     let mut next = columns;
     let mut i: usize = 0;
     while i < count {
-        let chain = chains[i];
+        let chain = chain_at(chains, i);
         next = with_chain(next, i, chain);
         i += 1;
     }
@@ -33,7 +35,7 @@ pub fn with_rows(columns: Columns, rows: &[Row]) -> Columns
     let mut next = columns;
     let mut i: usize = 0;
     while i < count {
-        let row = rows[i];
+        let row = row_at(rows, i);
         next = with_row(next, i, row);
         i += 1;
     }

@@ -3,3 +3,4 @@
 pub mod apart;
 pub mod counts;
 pub mod fill;
+pub mod getters;
