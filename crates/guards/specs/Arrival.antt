@@ -1,8 +1,9 @@
 -- An arrival at a row.
 use Prim.Native.Nat.{ℕ, _+_, _≤_, _<_}
 use mathlib.Core.Bool.{cond}
+use mathlib.Core.List.{List}
 use lib.Dec.{ltb}
-use lib.ListN.{set}
+use lib.ListN.{length, set}
 use Rattle.table.specs.Table.{at}
 use Rattle.table.specs.Refusals.{lastClock}
 use Rattle.table.specs.declared.refusal.Refusal.the-variants.{TooSoon}
@@ -10,12 +11,14 @@ use Rattle.guards.specs.declared.state.State.{State}
 use Rattle.guards.specs.declared.state.Outcome.{Outcome}
 use Rattle.guards.specs.Calls.{refused, taken}
 
--- The numbers of an arrival at a row are small.
-pub record Arriving (row period : ℕ) (σ : State) : Type 0 where
+-- An arrival's row has its place in the lists, and its numbers are small.
+pub record Arriving (row period clock : ℕ) (released guard : List ℕ) : Type 0 where
   pub row-most : row < 128
+  pub released-long : row < length released
+  pub guard-long : row < length guard
   pub period-most : period ≤ 1000000
-  pub clock-most : σ .clock ≤ lastClock
-  pub released-most : at (σ .released) row ≤ σ .clock + 1
+  pub clock-most : clock ≤ lastClock
+  pub released-most : at released row ≤ clock + 1
 
 -- 9, or else one instance more of the row, whose guard is the clock plus its period.
 unfoldable pub arrivedAt : ℕ → ℕ → State → Outcome

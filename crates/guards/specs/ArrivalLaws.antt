@@ -20,7 +20,7 @@ use Rattle.guards.specs.Fits.{fits}
 use Rattle.guards.specs.Calls.{refused, taken}
 use Rattle.guards.specs.Arrival.{Arriving, arrivedAt}
 use Rattle.guards.specs.ListsLaws.{filled-own, filled-one}
-use Rattle.guards.specs.StateLaws.{Sizes}
+use Rattle.guards.specs.Lent.{Long}
 use Rattle.guards.specs.BoundsLaws.{Bounded, bounded}
 
 -- The test that a task is the plan's.
@@ -39,7 +39,7 @@ first-row-below T ok (suc i) a b =
     omega (arith, first-row-suc T i, first-row-mono T (suc i) (T .tasks) b, ok .tasks .each i (omega arith) .steps-least)
 
 -- The state after it is as the machine says.
-module _ (P : Plan) (n f : ℕ) (σ : State) (z : Sizes σ) (few : n ≤ 128) (l : f < n) where
+module _ (P : Plan) (n f : ℕ) (σ : State) (z : Long n σ) (l : f < n) where
   arrived-state :
       record {
         clock = σ .clock;
@@ -53,13 +53,13 @@ module _ (P : Plan) (n f : ℕ) (σ : State) (z : Sizes σ) (few : n ≤ 128) (l
       let m : Moment = arrived P (momentOf σ) f in
       let e : eqb f f ≡ true = eq-eqb f f refl in
       let r : set (σ .released) f (at (σ .released) f + 1) ≡ filled (m .released) n (σ .released) =
-      filled-one 0 (m .released) n (σ .released) f _ (omega (arith, z .released)) l (rw e) (λ i a q. rw (ne-eqb i f q)) in
+      filled-one 0 (m .released) n (σ .released) f _ (z .released) l (rw e) (λ i a q. rw (ne-eqb i f q)) in
       let g : set (σ .guard) f (σ .clock + P .period f) ≡ filled (m .guard) n (σ .guard) =
-      filled-one 0 (m .guard) n (σ .guard) f _ (omega (arith, z .guard)) l (rw e) (λ i a q. rw (ne-eqb i f q)) in
+      filled-one 0 (m .guard) n (σ .guard) f _ (z .guard) l (rw e) (λ i a q. rw (ne-eqb i f q)) in
       let c : σ .completed ≡ filled (m .completed) n (σ .completed) =
-      filled-own 0 (m .completed) n (σ .completed) (omega (arith, z .completed)) (λ i a. refl) in
+      filled-own 0 (m .completed) n (σ .completed) (z .completed) (λ i a. refl) in
       let u : σ .used ≡ filled (m .used) n (σ .used) =
-      filled-own 0 (m .used) n (σ .used) (omega (arith, z .used)) (λ i a. refl) in
+      filled-own 0 (m .used) n (σ .used) (z .used) (λ i a. refl) in
       λ i. record { clock = σ .clock; released = r i; completed = c i; used = u i; guard = g i }
 
   pub arrived-at :
@@ -69,12 +69,16 @@ module _ (P : Plan) (n f : ℕ) (σ : State) (z : Sizes σ) (few : n ≤ 128) (l
   arrived-at = ap (λ (τ : State). cond (ltb (σ .clock) (at (σ .guard) f)) (refused (TooSoon (at (σ .guard) f)) σ) (taken (f + 1) τ)) arrived-state
 
 -- Where the state fits, the numbers are small.
-pub arriving : (T : Table) → Checked T → (σ : State) → fits (planOf T) (momentOf σ) ≡ true → (f : ℕ) → f < rows T → Arriving f (planOf T .period f) σ
+pub arriving :
+    (T : Table) → Checked T → (σ : State) → Long (rows T) σ → fits (planOf T) (momentOf σ) ≡ true
+    → (f : ℕ) → f < rows T → Arriving f (planOf T .period f) (σ .clock) (σ .released) (σ .guard)
 unfolding planOf momentOf
-arriving T ok σ e f l =
+arriving T ok σ z e f l =
     let b : Bounded (planOf T) (momentOf σ) = bounded (planOf T) (momentOf σ) e in
     record {
       row-most = omega (arith, ok .rows-most);
+      released-long = omega (arith, z .released);
+      guard-long = omega (arith, z .guard);
       period-most = small-of T ok .period-most f l;
       clock-most = b .clock;
       released-most = b .released f l;

@@ -1,7 +1,7 @@
 -- Each call has one outcome for each input, and a refusal changes nothing.
 use Prim.Native.Nat.{ℕ, pred}
 use mathlib.Core.Path.{_≡_, refl, sym, _∙_}
-use mathlib.Core.Bool.{Bool, true, false, cond, not}
+use mathlib.Core.Bool.{Bool, true, false, cond, not, _&&_}
 use mathlib.Core.List.{List}
 use native.Mathlib.Omega.{arith}
 use lib.Dec.{ltb, eqb}
@@ -19,7 +19,8 @@ use Rattle.guards.specs.declared.rows.Rows.{Rows}
 use Rattle.guards.specs.Moment.{momentOf}
 use Rattle.guards.specs.Fits.{fits}
 use Rattle.guards.specs.Rows.{rowsOf}
-use Rattle.guards.specs.Questions.{rowsFit, stateFits, runningRow}
+use Rattle.guards.specs.Questions.{stateFits, runningRow}
+use Rattle.guards.specs.Lent.{holds, onLists, tickOnLists, rowsFitIn}
 use Rattle.guards.specs.Calls.{TickOutcome, freshStart, hasTask, arrive, wrongDone, usedUp, tick, refused, taken, stays}
 
 -- Any two outcomes that a contract allows for one input are equal.
@@ -37,7 +38,7 @@ tick-one T σ done released a b = a ∙ sym b
 pub state-fits-one : (T : Table) (σ : State) {o p : Bool} → o ≡ stateFits T σ → p ≡ stateFits T σ → o ≡ p
 state-fits-one T σ a b = a ∙ sym b
 
-pub rows-fit-one : (R : Rows) (time : List ℕ) (σ : State) {o p : Bool} → o ≡ rowsFit R time σ → p ≡ rowsFit R time σ → o ≡ p
+pub rows-fit-one : (R : Rows) (time : List ℕ) (σ : State) {o p : Bool} → o ≡ rowsFitIn R time σ → p ≡ rowsFitIn R time σ → o ≡ p
 rows-fit-one R time σ a b = a ∙ sym b
 
 pub rows-of-one : (T : Table) {o p : Rows} → o ≡ rowsOf T → p ≡ rowsOf T → o ≡ p
@@ -80,6 +81,22 @@ arrive-all T σ task =
 pub arrive-keeps : (T : Table) (σ : State) (task : ℕ) (refusal : Refusal) → arrive T σ task .answer ≡ Refused refusal → arrive T σ task .state ≡ σ
 arrive-keeps T σ task = arrive-all T σ task .kept
 
+-- On lent lists too.
+lent-all : (T : Table) (σ : State) {o : Outcome} → Keeps σ o → Keeps σ (onLists T σ o)
+unfolding onLists
+lent-all T σ k =
+    either-keeps (isPlan T && not (holds (rows T) (σ .released) (σ .completed) (σ .used) (σ .guard))) (refused-keeps σ _) k
+
+pub fresh-in-keeps :
+    (T : Table) (σ : State) (refusal : Refusal)
+    → onLists T σ (freshStart T σ) .answer ≡ Refused refusal → onLists T σ (freshStart T σ) .state ≡ σ
+fresh-in-keeps T σ = lent-all T σ (fresh-start-all T σ) .kept
+
+pub arrive-in-keeps :
+    (T : Table) (σ : State) (task : ℕ) (refusal : Refusal)
+    → onLists T σ (arrive T σ task) .answer ≡ Refused refusal → onLists T σ (arrive T σ task) .state ≡ σ
+arrive-in-keeps T σ task = lent-all T σ (arrive-all T σ task) .kept
+
 -- State and release list are as they were.
 pub record Untouched (σ : State) (released : List ℕ) (o : TickOutcome) : Type 0 where
   pub state : o .outcome .state ≡ σ
@@ -111,6 +128,18 @@ tick-all T σ done released =
     (tick-either-keeps σ released (ltb (lowest (T .processors) (wrongDone (planOf T) (momentOf σ) done)) (T .processors)) (stays-keeps σ released _)
     (tick-either-keeps σ released (ltb (lowest (T .processors) (usedUp (planOf T) (momentOf σ) done)) (T .processors)) (stays-keeps σ released _)
     (tick-taken-keeps σ released _ _ _)))))))
+
+lent-tick-all : (T : Table) (σ : State) (done released : List ℕ) → TickKeeps σ released (tickOnLists T σ released (tick T σ done released))
+unfolding tickOnLists
+lent-tick-all T σ done released =
+    tick-either-keeps σ released (isPlan T && not (holds (rows T) (σ .released) (σ .completed) (σ .used) (σ .guard)))
+    (stays-keeps σ released _) (tick-all T σ done released)
+
+pub tick-in-keeps :
+    (T : Table) (σ : State) (done released : List ℕ) (refusal : Refusal)
+    → tickOnLists T σ released (tick T σ done released) .outcome .answer ≡ Refused refusal
+    → Untouched σ released (tickOnLists T σ released (tick T σ done released))
+tick-in-keeps T σ done released = lent-tick-all T σ done released .kept
 
 pub tick-keeps :
     (T : Table) (σ : State) (done released : List ℕ) (refusal : Refusal)

@@ -6,13 +6,16 @@ pub mod Calls
 pub mod Rows
 pub mod Arrival
 pub mod Questions
+pub mod Lent
 pub mod ListsLaws
 pub mod StateLaws
 pub mod AlikeLaws
 pub mod PartsLaws
 pub mod RowsLaws
 pub mod BoundsLaws
+pub mod LentLaws
 pub mod ArrivalLaws
+pub mod LentCalls
 pub mod RunningLaws
 pub mod Seam
 pub mod SeamLaws

@@ -8,6 +8,7 @@ use lib.ListN.{length, getD}
 use Rattle.facts.specs.Filled.{tab, filled}
 use Rattle.table.specs.Table.{Table, at, rows, isPlan}
 use Rattle.table.specs.Plan.{Plan, planOf}
+use Rattle.table.specs.View.{viewed}
 use Rattle.table.specs.declared.plan.View.{View}
 use Rattle.table.specs.declared.plan.View.the-variants as view
 use Rattle.guards.specs.declared.rows.Rows.{Rows}
@@ -16,6 +17,14 @@ use Rattle.guards.specs.declared.rows.Rows.{Rows}
 abbrev pub countOf : View → ℕ
 countOf (view.Rows count) = count
 countOf (view.Refused refusal) = 0
+
+-- The rows of a table laid into two lists; where it is no plan, or a list is too short, there are none.
+unfoldable pub rowsIn : Table → List ℕ → List Bool → Rows
+rowsIn T period first = record {
+  count = countOf (viewed T period first .answer);
+  period = viewed T period first .period;
+  first = viewed T period first .first;
+}
 
 -- The rows of a table in lists of 128, whose entries past the rows are 0 and no; a table that is no plan has none.
 unfoldable pub rowsOf : Table → Rows

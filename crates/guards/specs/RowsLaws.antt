@@ -8,7 +8,7 @@ use borrow.Author.Tests.{le-leb}
 use lib.ListN.{length, getD}
 use Rattle.facts.specs.TestsLaws.{clash}
 use Rattle.facts.specs.Filled.{tab}
-use Rattle.facts.specs.FilledLaws.{getD-filled, length-tab}
+use Rattle.facts.specs.FilledLaws.{getD-filled, length-filled, length-tab}
 use Rattle.table.specs.Table.{Table, at, rows, isPlan}
 use Rattle.table.specs.TableLaws.{Checked, checked}
 use Rattle.table.specs.Plan.{planOf, cost}
@@ -21,7 +21,7 @@ use Rattle.guards.specs.Moment.{momentOf}
 use Rattle.guards.specs.Fits.{fits}
 use Rattle.guards.specs.AlikeLaws.{fits-ext}
 use Rattle.guards.specs.PartsLaws.{rows-fit-listed}
-use Rattle.guards.specs.Rows.{countOf, rowsOf}
+use Rattle.guards.specs.Rows.{countOf, rowsIn, rowsOf}
 use Rattle.guards.specs.Questions.{rowsFit}
 
 rows-some : (T : Table) → Checked T → 0 < rows T
@@ -53,10 +53,17 @@ viewed-rows T view R n e =
         let b = le-leb (rows T) (length (tab (λ r. false) 128)) (omega (arith, ok .rows-most, length-tab (λ r. false) 128)) in
         rw (q, a, b)
 
+-- The rows laid into two such lists are those of the table.
+pub rows-in-of : (T : Table) → rowsIn T (tab (λ r. 0) 128) (tab (λ r. false) 128) ≡ rowsOf T
+unfolding rowsIn
+rows-in-of T = viewed-rows T _ _ refl refl
+
 -- The rows are those of the plan T.
 pub record RowsOf (T : Table) (R : Rows) : Type 0 where
   pub plan : isPlan T ≡ true
   pub count : R .count ≡ rows T
+  pub period-long : rows T ≤ length (R .period)
+  pub first-long : rows T ≤ length (R .first)
   pub period : (r : ℕ) → r < rows T → at (R .period) r ≡ planOf T .period r
   pub first : (r : ℕ) → r < rows T → getD (R .first) r false ≡ planOf T .first r
 
@@ -65,6 +72,8 @@ unfolding rowsOf
 rows-are T q = record {
   plan = q;
   count = rw q;
+  period-long = let few = checked T q .rows-most in rw q (omega (arith, length-tab {A = ℕ} (λ r. 0) 128, length-filled (planOf T .period) (rows T) (tab (λ r. 0) 128) (omega (arith, length-tab {A = ℕ} (λ r. 0) 128))));
+  first-long = let few = checked T q .rows-most in rw q (omega (arith, length-tab (λ r. false) 128, length-filled (planOf T .first) (rows T) (tab (λ r. false) 128) (omega (arith, length-tab (λ r. false) 128))));
   period = λ r l. rw q (getD-filled _ _ _ _ _ l);
   first = λ r l. rw q (getD-filled _ _ _ _ _ l);
 }

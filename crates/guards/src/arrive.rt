@@ -1,7 +1,8 @@
 // The call arrive.
 
 use crate::fits::rows_fit;
-use crate::rows::rows_of;
+use crate::rows::rows_in;
+use crate::state::Called;
 use crate::state::Outcome;
 use crate::state::State;
 use crate::state::refused;
@@ -11,10 +12,12 @@ ghost use mathlib.Core.Path.{_≡_};
 ghost use Prim.Native.Nat.{ℕ, _≤_, _<_};
 ghost use lib.Dec.{leb};
 ghost use mathlib.Core.Bool.{_&&_};
+ghost use mathlib.Core.List.{List};
 ghost use lib.ListN.{length};
 ghost use Rattle.facts.specs.Sums.{sum};
 ghost use Rattle.table.specs.Table.{at, tableOf};
 ghost use Rattle.guards.specs.Arrival.{Arriving, arrivedAt};
+ghost use Rattle.guards.specs.Lent.{onLists, outcomeOf, stateOf};
 ghost use Rattle.guards.specs.Calls as calls;
 
 fn has_task(tasks: u64, task: u64) -> bool
@@ -41,36 +44,41 @@ fn first_row(task: usize, steps: &[u64]) -> usize
 }
 
 // An instance of this row arrives.
-fn arrive_at(row: usize, period: u64, state: State) -> Outcome
-    requires { ⌜ Arriving row period state ⌝ }
-    ensures { λ r. ⌜ r ≡ arrivedAt row period state ⌝ }
+fn arrive_at(row: usize, period: u64, clock: u64, released: &mut [u64], guard: &mut [u64]) -> Called
+    requires { ⌜ Arriving row period clock (now released) (now guard) ⌝ }
+    ensures { λ r. ⌜ ((completed used : List ℕ) → outcomeOf r (now (released .exit)) completed used (now (guard .exit)) ≡ arrivedAt row period (stateOf clock (now (released .entry)) completed used (now (guard .entry)))) ⌝ }
 {
-    let mut next = state;
-    let guard = next.guard[row];
-    if next.clock < guard {
-        return refused(Refusal::TooSoon(guard), next);
+    let due = guard[row];
+    if clock < due {
+        return refused(Refusal::TooSoon(due), clock);
     }
-    next.released[row] = next.released[row] + 1;
-    next.guard[row] = next.clock + period;
-    taken(row as u64 + 1, next)
+    released[row] = released[row] + 1;
+    guard[row] = clock + period;
+    taken(row as u64 + 1, clock)
 }
 
-// An instance of the task arrives at its first row.
-pub fn arrive(
+// An instance of the task arrives at its first row, in a state in four lists.
+pub fn arrive_in<'a>(
     processors: u64,
     tasks: u64,
-    period: &[u64],
-    deadline: &[u64],
-    steps: &[u64],
-    processor: &[u64],
-    priority: &[u64],
-    time: &[u64],
-    state: State,
+    period: &'a [u64],
+    deadline: &'a [u64],
+    steps: &'a [u64],
+    processor: &'a [u64],
+    priority: &'a [u64],
+    time: &'a [u64],
+    clock: u64,
+    released: &mut [u64],
+    completed: &[u64],
+    used: &[u64],
+    guard: &mut [u64],
     task: u64,
-) -> Outcome
-    ensures { λ r. ⌜ r ≡ calls.arrive (tableOf processors tasks (now (period .entry)) (now (deadline .entry)) (now (steps .entry)) (now (processor .entry)) (now (priority .entry)) (now (time .entry))) state task ⌝ }
+) -> Called
+    ensures { λ r. ⌜ outcomeOf r (now (released .exit)) (now (completed .entry)) (now (used .entry)) (now (guard .exit)) ≡ onLists (tableOf processors tasks (now (period .entry)) (now (deadline .entry)) (now (steps .entry)) (now (processor .entry)) (now (priority .entry)) (now (time .entry))) (stateOf clock (now (released .entry)) (now (completed .entry)) (now (used .entry)) (now (guard .entry))) (calls.arrive (tableOf processors tasks (now (period .entry)) (now (deadline .entry)) (now (steps .entry)) (now (processor .entry)) (now (priority .entry)) (now (time .entry))) (stateOf clock (now (released .entry)) (now (completed .entry)) (now (used .entry)) (now (guard .entry))) task) ⌝ }
 {
-    let rows = rows_of(
+    let mut periods = [0u64; 128];
+    let mut firsts = [false; 128];
+    let count = rows_in(
         processors,
         tasks,
         period,
@@ -79,16 +87,77 @@ pub fn arrive(
         processor,
         priority,
         time,
+        &mut periods,
+        &mut firsts,
     );
-    if rows.count == 0 {
-        return refused(Refusal::NotAPlan, state);
+    if count == 0 {
+        return refused(Refusal::NotAPlan, clock);
     }
-    if !rows_fit(rows, time, state) {
-        return refused(Refusal::StateDoesNotFit, state);
+    if !rows_fit(
+        count,
+        &periods,
+        &firsts,
+        time,
+        clock,
+        released,
+        completed,
+        used,
+        guard,
+    ) {
+        return refused(Refusal::StateDoesNotFit, clock);
     }
     if !has_task(tasks, task) {
-        return refused(Refusal::NoSuchTask(task), state);
+        return refused(Refusal::NoSuchTask(task), clock);
     }
     let row = first_row((task - 1) as usize, steps);
-    arrive_at(row, rows.period[row], state)
+    arrive_at(row, periods[row], clock, released, guard)
+}
+
+// An instance of the task arrives at its first row.
+pub fn arrive<'a>(
+    processors: u64,
+    tasks: u64,
+    period: &'a [u64],
+    deadline: &'a [u64],
+    steps: &'a [u64],
+    processor: &'a [u64],
+    priority: &'a [u64],
+    time: &'a [u64],
+    state: State,
+    task: u64,
+) -> Outcome
+    ensures { λ r. ⌜ r ≡ calls.arrive (tableOf processors tasks (now (period .entry)) (now (deadline .entry)) (now (steps .entry)) (now (processor .entry)) (now (priority .entry)) (now (time .entry))) state task ⌝ }
+{
+    let mut released = state.released;
+    let completed = state.completed;
+    let used = state.used;
+    let mut guard = state.guard;
+    let called = arrive_in(
+        processors,
+        tasks,
+        period,
+        deadline,
+        steps,
+        processor,
+        priority,
+        time,
+        state.clock,
+        &mut released,
+        &completed,
+        &used,
+        &mut guard,
+        task,
+    );
+    let answer = called.answer;
+    let clock = called.clock;
+    Outcome {
+        answer: answer,
+        state: State {
+            clock: clock,
+            released: released,
+            completed: completed,
+            used: used,
+            guard: guard,
+        },
+    }
 }

@@ -1,15 +1,19 @@
 // When a state fits a plan.
 
-use crate::rows::Rows;
-use crate::rows::rows_of;
+use crate::rows::rows_in;
 use crate::state::LAST_CLOCK;
 use crate::state::State;
 ghost use mathlib.Core.Path.{_≡_};
 ghost use Prim.Native.Nat.{_≤_};
-ghost use Rattle.table.specs.Table.{tableOf};
+ghost use Rattle.table.specs.Table.{at, tableOf};
 ghost use Rattle.table.specs.Refusals.{lastClock};
-ghost use Rattle.guards.specs.Questions.{rowsFit, stateFits};
-ghost use Rattle.guards.specs.Rows.{chainFits, countsFit};
+ghost use mathlib.Core.List.{[]};
+ghost use Rattle.facts.specs.Tests.{all};
+ghost use Rattle.guards.specs.Moment.{momentOf};
+ghost use Rattle.guards.specs.Fits.{rowFits};
+ghost use Rattle.guards.specs.Questions.{stateFits};
+ghost use Rattle.guards.specs.Rows.{chainFits, countsFit, planFrom};
+ghost use Rattle.guards.specs.Lent.{Fitting, holds, rowsFitIn, stand, stateOf};
 
 // At most so many rows have their place in the lists.
 const MOST_ROWS: usize = 128;
@@ -61,41 +65,124 @@ fn chain_fits(first: bool, clock: u64, period: u64, released: u64, guard: u64, b
     true
 }
 
-// Whether the rows stand in their lists and the state fits them.
-pub fn rows_fit(rows: Rows, time: &[u64], state: State) -> bool
-    ensures { λ r. ⌜ r ≡ rowsFit rows (now (time .entry)) state ⌝ }
+// Whether each of the four lists of a state has an entry for each row.
+pub fn lists_hold(
+    count: usize,
+    released: &[u64],
+    completed: &[u64],
+    used: &[u64],
+    guard: &[u64],
+) -> bool
+    ensures { λ r. ⌜ r ≡ holds count (now (released .entry)) (now (completed .entry)) (now (used .entry)) (now (guard .entry)) ⌝ }
 {
-    if MOST_ROWS < rows.count {
+    if released.len() < count {
         return false;
     }
-    if time.len() < rows.count {
+    if completed.len() < count {
         return false;
     }
-    if LAST_CLOCK < state.clock {
+    if used.len() < count {
         return false;
     }
-    let mut before = state.completed[0];
+    count <= guard.len()
+}
+
+// Whether each of the lists of a plan's rows has an entry for each of them.
+fn rows_stand(count: usize, periods: &[u64], firsts: &[bool], time: &[u64]) -> bool
+    ensures { λ r. ⌜ r ≡ stand count (now (periods .entry)) (now (firsts .entry)) (now (time .entry)) ⌝ }
+{
+    if MOST_ROWS < count {
+        return false;
+    }
+    if periods.len() < count {
+        return false;
+    }
+    if firsts.len() < count {
+        return false;
+    }
+    count <= time.len()
+}
+
+fn first_of(list: &[u64]) -> u64
+    ensures { λ r. ⌜ r ≡ at (now (list .entry)) 0 ⌝ }
+{
+    if list.len() == 0 {
+        return 0;
+    }
+    list[0]
+}
+
+// Whether each row of lists that are long enough fits.
+fn each_fits(
+    count: usize,
+    periods: &[u64],
+    firsts: &[bool],
+    time: &[u64],
+    clock: u64,
+    released: &[u64],
+    completed: &[u64],
+    used: &[u64],
+    guard: &[u64],
+) -> bool
+    requires { ⌜ Fitting count (now periods) (now firsts) (now time) (stateOf clock (now released) (now completed) (now used) (now guard)) ⌝ }
+    ensures { λ r. ⌜ r ≡ all count (rowFits (planFrom count (now (periods .entry)) (now (firsts .entry)) [] [] (now (time .entry))) (momentOf (stateOf clock (now (released .entry)) (now (completed .entry)) (now (used .entry)) (now (guard .entry))))) ⌝ }
+{
+    let mut before = first_of(completed);
     let mut row: usize = 0;
-    while row < rows.count {
-        let released = state.released[row];
-        let completed = state.completed[row];
-        if !counts_fit(state.clock, released, completed, state.used[row], time[row]) {
+    while row < count {
+        if !counts_fit(clock, released[row], completed[row], used[row], time[row]) {
             return false;
         }
         if !chain_fits(
-            rows.first[row],
-            state.clock,
-            rows.period[row],
-            released,
-            state.guard[row],
+            firsts[row],
+            clock,
+            periods[row],
+            released[row],
+            guard[row],
             before,
         ) {
             return false;
         }
-        before = completed;
+        before = completed[row];
         row += 1;
     }
     true
+}
+
+// Whether the rows stand in their lists and the state in the four others fits them.
+pub fn rows_fit(
+    count: usize,
+    periods: &[u64],
+    firsts: &[bool],
+    time: &[u64],
+    clock: u64,
+    released: &[u64],
+    completed: &[u64],
+    used: &[u64],
+    guard: &[u64],
+) -> bool
+    ensures { λ r. ⌜ r ≡ rowsFitIn (record { count = count; period = now (periods .entry); first = now (firsts .entry) }) (now (time .entry)) (stateOf clock (now (released .entry)) (now (completed .entry)) (now (used .entry)) (now (guard .entry))) ⌝ }
+{
+    if !rows_stand(count, periods, firsts, time) {
+        return false;
+    }
+    if !lists_hold(count, released, completed, used, guard) {
+        return false;
+    }
+    if LAST_CLOCK < clock {
+        return false;
+    }
+    each_fits(
+        count,
+        periods,
+        firsts,
+        time,
+        clock,
+        released,
+        completed,
+        used,
+        guard,
+    )
 }
 
 // Whether the table is a plan and the state fits it.
@@ -112,7 +199,9 @@ pub fn state_fits(
 ) -> bool
     ensures { λ r. ⌜ r ≡ stateFits (tableOf processors tasks (now (period .entry)) (now (deadline .entry)) (now (steps .entry)) (now (processor .entry)) (now (priority .entry)) (now (time .entry))) state ⌝ }
 {
-    let rows = rows_of(
+    let mut periods = [0u64; 128];
+    let mut firsts = [false; 128];
+    let count = rows_in(
         processors,
         tasks,
         period,
@@ -121,9 +210,25 @@ pub fn state_fits(
         processor,
         priority,
         time,
+        &mut periods,
+        &mut firsts,
     );
-    if rows.count == 0 {
+    if count == 0 {
         return false;
     }
-    rows_fit(rows, time, state)
+    let released = state.released;
+    let completed = state.completed;
+    let used = state.used;
+    let guard = state.guard;
+    rows_fit(
+        count,
+        &periods,
+        &firsts,
+        time,
+        state.clock,
+        &released,
+        &completed,
+        &used,
+        &guard,
+    )
 }

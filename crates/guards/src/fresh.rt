@@ -1,6 +1,8 @@
 // The call fresh start.
 
-use crate::rows::rows_of;
+use crate::fits::lists_hold;
+use crate::rows::rows_in;
+use crate::state::Called;
 use crate::state::Outcome;
 use crate::state::State;
 use crate::state::refused;
@@ -8,44 +10,54 @@ use crate::state::taken;
 use table::refusal::Refusal;
 ghost use mathlib.Core.Path.{_≡_};
 ghost use Prim.Native.Nat.{_≤_};
+ghost use lib.ListN.{length};
+ghost use Rattle.facts.specs.Filled.{filled};
 ghost use Rattle.table.specs.Table.{tableOf};
-ghost use Rattle.guards.specs.Moment.{stateWith};
-ghost use Rattle.guards.specs.Machine.{start};
+ghost use Rattle.guards.specs.Lent.{onLists, outcomeOf, stateOf};
 ghost use Rattle.guards.specs.Calls.{freshStart};
 
-// The state with its clock and its first rows at 0.
-fn cleared(rows: usize, state: State) -> State
-    requires { ⌜ rows ≤ 128 ⌝ }
-    ensures { λ r. ⌜ r ≡ stateWith rows start state ⌝ }
+// Sets the first rows of the four lists to 0.
+fn clear(
+    count: usize,
+    released: &mut [u64],
+    completed: &mut [u64],
+    used: &mut [u64],
+    guard: &mut [u64],
+)
+    requires { ⌜ (count ≤ length (now released)) × (count ≤ length (now completed)) × (count ≤ length (now used)) × (count ≤ length (now guard)) ⌝ }
+    ensures { λ _. ⌜ (now (released .exit) ≡ filled (λ r. 0) count (now (released .entry))) × (now (completed .exit) ≡ filled (λ r. 0) count (now (completed .entry))) × (now (used .exit) ≡ filled (λ r. 0) count (now (used .entry))) × (now (guard .exit) ≡ filled (λ r. 0) count (now (guard .entry))) ⌝ }
 {
-    let mut next = state;
-    next.clock = 0;
     let mut row: usize = 0;
-    while row < rows {
-        next.released[row] = 0;
-        next.completed[row] = 0;
-        next.used[row] = 0;
-        next.guard[row] = 0;
+    while row < count {
+        released[row] = 0;
+        completed[row] = 0;
+        used[row] = 0;
+        guard[row] = 0;
         row += 1;
     }
-    next
 }
 
-// Sets the clock and the plan's rows to 0.
-pub fn fresh_start(
+// A fresh start of the state in four lists.
+pub fn fresh_in<'a>(
     processors: u64,
     tasks: u64,
-    period: &[u64],
-    deadline: &[u64],
-    steps: &[u64],
-    processor: &[u64],
-    priority: &[u64],
-    time: &[u64],
-    state: State,
-) -> Outcome
-    ensures { λ r. ⌜ r ≡ freshStart (tableOf processors tasks (now (period .entry)) (now (deadline .entry)) (now (steps .entry)) (now (processor .entry)) (now (priority .entry)) (now (time .entry))) state ⌝ }
+    period: &'a [u64],
+    deadline: &'a [u64],
+    steps: &'a [u64],
+    processor: &'a [u64],
+    priority: &'a [u64],
+    time: &'a [u64],
+    clock: u64,
+    released: &mut [u64],
+    completed: &mut [u64],
+    used: &mut [u64],
+    guard: &mut [u64],
+) -> Called
+    ensures { λ r. ⌜ outcomeOf r (now (released .exit)) (now (completed .exit)) (now (used .exit)) (now (guard .exit)) ≡ onLists (tableOf processors tasks (now (period .entry)) (now (deadline .entry)) (now (steps .entry)) (now (processor .entry)) (now (priority .entry)) (now (time .entry))) (stateOf clock (now (released .entry)) (now (completed .entry)) (now (used .entry)) (now (guard .entry))) (freshStart (tableOf processors tasks (now (period .entry)) (now (deadline .entry)) (now (steps .entry)) (now (processor .entry)) (now (priority .entry)) (now (time .entry))) (stateOf clock (now (released .entry)) (now (completed .entry)) (now (used .entry)) (now (guard .entry)))) ⌝ }
 {
-    let rows = rows_of(
+    let mut periods = [0u64; 128];
+    let mut firsts = [false; 128];
+    let count = rows_in(
         processors,
         tasks,
         period,
@@ -54,9 +66,62 @@ pub fn fresh_start(
         processor,
         priority,
         time,
+        &mut periods,
+        &mut firsts,
     );
-    if rows.count == 0 {
-        return refused(Refusal::NotAPlan, state);
+    if count == 0 {
+        return refused(Refusal::NotAPlan, clock);
     }
-    taken(0, cleared(rows.count, state))
+    if !lists_hold(count, released, completed, used, guard) {
+        return refused(Refusal::StateDoesNotFit, clock);
+    }
+    clear(count, released, completed, used, guard);
+    taken(0, 0)
+}
+
+// Sets the clock and the plan's rows to 0.
+pub fn fresh_start<'a>(
+    processors: u64,
+    tasks: u64,
+    period: &'a [u64],
+    deadline: &'a [u64],
+    steps: &'a [u64],
+    processor: &'a [u64],
+    priority: &'a [u64],
+    time: &'a [u64],
+    state: State,
+) -> Outcome
+    ensures { λ r. ⌜ r ≡ freshStart (tableOf processors tasks (now (period .entry)) (now (deadline .entry)) (now (steps .entry)) (now (processor .entry)) (now (priority .entry)) (now (time .entry))) state ⌝ }
+{
+    let mut released = state.released;
+    let mut completed = state.completed;
+    let mut used = state.used;
+    let mut guard = state.guard;
+    let called = fresh_in(
+        processors,
+        tasks,
+        period,
+        deadline,
+        steps,
+        processor,
+        priority,
+        time,
+        state.clock,
+        &mut released,
+        &mut completed,
+        &mut used,
+        &mut guard,
+    );
+    let answer = called.answer;
+    let clock = called.clock;
+    Outcome {
+        answer: answer,
+        state: State {
+            clock: clock,
+            released: released,
+            completed: completed,
+            used: used,
+            guard: guard,
+        },
+    }
 }

@@ -1,4 +1,5 @@
-// The guards (document 01, "Guards"): the run state by value, when it fits a plan, and the calls fresh start and arrive.
+// The guards (document 01, "Guards"): the run state, by value or in lent lists, when it fits a plan, and the calls fresh start
+// and arrive.
 
 pub mod arrive;
 pub mod fits;

@@ -4,7 +4,8 @@ use table::plan::View;
 use table::plan::view_rows;
 ghost use mathlib.Core.Path.{_≡_};
 ghost use Rattle.table.specs.Table.{tableOf};
-ghost use Rattle.guards.specs.Rows.{countOf, rowsOf};
+ghost use Rattle.guards.specs.Rows.{countOf, rowsIn, rowsOf};
+ghost use Rattle.guards.specs.declared.rows.Rows.{Rows};
 
 // How many rows, each row's period, and whether it is the first of its chain.
 pub struct Rows {
@@ -22,6 +23,36 @@ fn count_of(view: View) -> usize
     }
 }
 
+// The rows of a table in two lists, and how many there are; a table that is no plan has none.
+pub fn rows_in(
+    processors: u64,
+    tasks: u64,
+    period: &[u64],
+    deadline: &[u64],
+    steps: &[u64],
+    processor: &[u64],
+    priority: &[u64],
+    time: &[u64],
+    periods: &mut [u64],
+    firsts: &mut [bool],
+) -> usize
+    ensures { λ r. ⌜ _≡_ {A = Rows} (record { count = r; period = now (periods .exit); first = now (firsts .exit) }) (rowsIn (tableOf processors tasks (now (period .entry)) (now (deadline .entry)) (now (steps .entry)) (now (processor .entry)) (now (priority .entry)) (now (time .entry))) (now (periods .entry)) (now (firsts .entry))) ⌝ }
+{
+    let view = view_rows(
+        processors,
+        tasks,
+        period,
+        deadline,
+        steps,
+        processor,
+        priority,
+        time,
+        periods,
+        firsts,
+    );
+    count_of(view)
+}
+
 // The rows of a table; one that is no plan has none.
 pub fn rows_of(
     processors: u64,
@@ -37,7 +68,7 @@ pub fn rows_of(
 {
     let mut periods = [0u64; 128];
     let mut firsts = [false; 128];
-    let view = view_rows(
+    let count = rows_in(
         processors,
         tasks,
         period,
@@ -49,7 +80,6 @@ pub fn rows_of(
         &mut periods,
         &mut firsts,
     );
-    let count = count_of(view);
     Rows {
         count: count,
         period: periods,

@@ -3,7 +3,7 @@
 
 use table::refusal::Refusal;
 ghost use mathlib.Core.Path.{_≡_};
-ghost use Rattle.guards.specs.Calls as calls;
+ghost use Rattle.guards.specs.Lent.{refusedAt, takenAt};
 
 // The clock of a run ends here.
 pub const LAST_CLOCK: u64 = 1000000000000;
@@ -28,22 +28,28 @@ pub struct Outcome {
     pub state: State,
 }
 
-// A call is refused, and the state stays.
-pub fn refused(refusal: Refusal, state: State) -> Outcome
-    ensures { λ r. ⌜ r ≡ calls.refused refusal state ⌝ }
+// The answer of a call and the clock after it; the rows are in the lists that were lent to it.
+pub struct Called {
+    pub answer: Answer,
+    pub clock: u64,
+}
+
+// A call is refused, and the clock stays.
+pub fn refused(refusal: Refusal, clock: u64) -> Called
+    ensures { λ r. ⌜ r ≡ refusedAt refusal clock ⌝ }
 {
-    Outcome {
+    Called {
         answer: Answer::Refused(refusal),
-        state: state,
+        clock: clock,
     }
 }
 
-// A call is taken, with its answer and the state after it.
-pub fn taken(answer: u64, state: State) -> Outcome
-    ensures { λ r. ⌜ r ≡ calls.taken answer state ⌝ }
+// A call is taken, with its answer and the clock after it.
+pub fn taken(answer: u64, clock: u64) -> Called
+    ensures { λ r. ⌜ r ≡ takenAt answer clock ⌝ }
 {
-    Outcome {
+    Called {
         answer: Answer::Taken(answer),
-        state: state,
+        clock: clock,
     }
 }

@@ -9,6 +9,9 @@ use Rattle.table.specs.declared.refusal.Refusal.the-variants.{NotAPlan}
 use Rattle.guards.specs.declared.state.State.{State}
 use Rattle.guards.specs.declared.state.Answer.the-variants.{Refused}
 use Rattle.guards.specs.declared.state.Outcome.{Outcome}
+use Rattle.guards.specs.StateLaws.{Sizes}
+use Rattle.guards.specs.Lent.{onLists, tickOnLists}
+use Rattle.guards.specs.LentLaws.{lent-sized, tick-lent-sized}
 use Rattle.guards.specs.Calls.{freshStart, arrive, tick, TickOutcome}
 use Rattle.rack.specs.declared.calls.Call.{Call}
 use Rattle.rack.specs.declared.calls.Call.the-variants.{Fresh, Arrive, Tick}
@@ -64,18 +67,18 @@ pub arrive-alone : (table state done released : List ℕ) (task : ℕ) {o : Rack
 unfolding rackArrive rackCall calledIn called
 arrive-alone table state done released task e = ap (λ (x : RackTickOutcome). x .outcome) e
 
--- The outcome of a call by what is asked.
-module _ (T : Table) (σ : State) (done released : List ℕ) (call : Call) where
-  pub fresh-called : {o : Outcome} → call ≡ Fresh → o ≡ freshStart T σ
+-- The outcome of a call by what is asked, on lists of 128 entries.
+module _ (T : Table) (σ : State) (sizes : Sizes σ) (done released : List ℕ) (call : Call) where
+  pub fresh-called : {o : Outcome} → call ≡ Fresh → o ≡ onLists T σ (freshStart T σ)
       → _≡_ {A = TickOutcome} (record { outcome = o; released = released }) (called call T σ done released)
   unfolding called
-  fresh-called e f = rw (e, f)
+  fresh-called e f = rw (e, f, lent-sized T σ (freshStart T σ) sizes)
 
-  pub arrive-called : (task : ℕ) {o : Outcome} → call ≡ Arrive task → o ≡ arrive T σ task
+  pub arrive-called : (task : ℕ) {o : Outcome} → call ≡ Arrive task → o ≡ onLists T σ (arrive T σ task)
       → _≡_ {A = TickOutcome} (record { outcome = o; released = released }) (called call T σ done released)
   unfolding called
-  arrive-called task e f = rw (e, f)
+  arrive-called task e f = rw (e, f, lent-sized T σ (arrive T σ task) sizes)
 
-  pub tick-called : {o : TickOutcome} → call ≡ Tick → o ≡ tick T σ done released → o ≡ called call T σ done released
+  pub tick-called : {o : TickOutcome} → call ≡ Tick → o ≡ tickOnLists T σ released (tick T σ done released) → o ≡ called call T σ done released
   unfolding called
-  tick-called e f = rw (e, f)
+  tick-called e f = rw (e, f, tick-lent-sized T σ released (tick T σ done released) sizes)

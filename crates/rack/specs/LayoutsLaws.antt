@@ -2,13 +2,15 @@
 use Prim.Native.Nat.{ℕ, min}
 use mathlib.Core.Path.{_≡_, refl, _∙_, ap}
 use mathlib.Core.List.{List}
-use lib.ListN.{replicate}
+use lib.ListN.{length, replicate}
 use Rattle.facts.specs.Sums.{sum}
 use Rattle.words.specs.Words.{word, withWord, gathered, withField}
+use Rattle.words.specs.FieldsLaws.{length-gathered}
 use Rattle.table.specs.declared.refusal.Refusal.{Refusal}
 use Rattle.table.specs.Table.{Table, tableOf, at}
 use Rattle.table.specs.Refusals.{numberOf, placeOf}
 use Rattle.guards.specs.declared.state.State.{State}
+use Rattle.guards.specs.StateLaws.{Sizes}
 use Rattle.guards.specs.declared.state.Answer.the-variants.{Taken, Refused}
 use Rattle.guards.specs.declared.state.Outcome.{Outcome}
 use Rattle.rack.specs.declared.answer.RackAnswer.{RackAnswer}
@@ -48,15 +50,35 @@ pub refused-made : (refusal : Refusal) {n v : ℕ} → n ≡ numberOf refusal �
 unfolding refusedAs
 refused-made refusal e f = rw (e, f)
 
-pub state-made : (n : ℕ) (l : List ℕ) {clock : ℕ} {released completed used guard : List ℕ}
-    → clock ≡ word l 0
-    → released ≡ gathered l 1 4 n (replicate 128 0)
-    → completed ≡ gathered l 2 4 n (replicate 128 0)
-    → used ≡ gathered l 3 4 n (replicate 128 0)
-    → guard ≡ gathered l 4 4 n (replicate 128 0)
-    → _≡_ {A = State} (record { clock = clock; released = released; completed = completed; used = used; guard = guard }) (stateIn n l)
+-- The state after is the clock of the list, and its fields over the lists of the state before.
+pub record StateRead (n : ℕ) (l : List ℕ) (before after : State) : Type 0 where
+  pub clock : after .clock ≡ word l 0
+  pub released : after .released ≡ gathered l 1 4 n (before .released)
+  pub completed : after .completed ≡ gathered l 2 4 n (before .completed)
+  pub used : after .used ≡ gathered l 3 4 n (before .used)
+  pub guard : after .guard ≡ gathered l 4 4 n (before .guard)
+
+-- Over lists of zeros it is the state that the list holds, in lists of 128 entries.
+abbrev pub blankState : State
+blankState = record {
+  clock = 0;
+  released = replicate 128 0;
+  completed = replicate 128 0;
+  used = replicate 128 0;
+  guard = replicate 128 0;
+}
+
+pub state-read : {n : ℕ} {l : List ℕ} {after : State} → StateRead n l blankState after → after ≡ stateIn n l
 unfolding stateIn
-state-made n l a b c d e = rw (a, b, c, d, e)
+state-read {n} {l} r = λ i. record { clock = r .clock i; released = r .released i; completed = r .completed i; used = r .used i; guard = r .guard i }
+
+pub read-sizes : {n : ℕ} {l : List ℕ} {after : State} → StateRead n l blankState after → Sizes after
+read-sizes {n} {l} r = record {
+  released = ap (λ (x : List ℕ). length x) (r .released) ∙ length-gathered l 1 4 n (replicate 128 0);
+  completed = ap (λ (x : List ℕ). length x) (r .completed) ∙ length-gathered l 2 4 n (replicate 128 0);
+  used = ap (λ (x : List ℕ). length x) (r .used) ∙ length-gathered l 3 4 n (replicate 128 0);
+  guard = ap (λ (x : List ℕ). length x) (r .guard) ∙ length-gathered l 4 4 n (replicate 128 0);
+}
 
 pub state-kept : (n : ℕ) (σ : State) (l : List ℕ) {l₁ l₂ l₃ l₄ l₅ : List ℕ}
     → l₁ ≡ withWord l 0 (σ .clock)

@@ -2,23 +2,24 @@
 
 use crate::answer::RackAnswer;
 use crate::answer::refused;
-use crate::states::put_outcome;
+use crate::states::put_called;
 use crate::states::state_in;
 use crate::tables::columns_in;
 use crate::tables::rows_held;
-use columns::arrive::arrive;
+use columns::arrive::arrive_in;
 use columns::columns::Columns;
-use columns::fresh::fresh_start;
+use columns::fresh::fresh_in;
 use columns::plan::is_plan;
-use columns::tick::tick;
-use guards::state::Outcome;
-use guards::state::State;
+use columns::tick::tick_in;
+use guards::state::Called;
 use table::refusal::Refusal;
 ghost use mathlib.Core.Path.{_≡_};
 ghost use mathlib.Core.Bool.{cond};
 ghost use Rattle.table.specs.declared.refusal.Refusal.the-variants.{NotAPlan, StateDoesNotFit};
 ghost use Rattle.columns.specs.Columns.{tableIn as tableOfColumns};
 ghost use Rattle.guards.specs.Calls.{TickOutcome};
+ghost use Rattle.guards.specs.Lent.{outcomeOf, stateOf};
+ghost use Rattle.guards.specs.StateLaws.{Sizes};
 ghost use Rattle.rack.specs.RackCalls.{RackTickOutcome, called, rackCall, refusedAs};
 
 // The lengths of the lists.
@@ -43,20 +44,25 @@ fn untried(plan: bool) -> RackAnswer
     refused(Refusal::NotAPlan)
 }
 
-// The outcome of a call; a tick reads the done list and fills the release list.
-fn outcome_of(
+// The call on a table and a state in four lists; a tick reads the done list and fills the release list.
+fn call_in(
     call: Call,
     columns: Columns,
-    state: State,
+    clock: u64,
+    released: &mut [u64],
+    completed: &mut [u64],
+    used: &mut [u64],
+    guard: &mut [u64],
     done: &[u8],
-    released: &mut [u8],
-) -> Outcome
-    ensures { λ r. ⌜ _≡_ {A = TickOutcome} (record { outcome = r; released = now (released .exit) }) (called call (tableOfColumns columns) state (now (done .entry)) (now (released .entry))) ⌝ }
+    out: &mut [u8],
+) -> Called
+    requires { ⌜ Sizes (stateOf clock (now released) (now completed) (now used) (now guard)) ⌝ }
+    ensures { λ r. ⌜ _≡_ {A = TickOutcome} (record { outcome = outcomeOf r (now (released .exit)) (now (completed .exit)) (now (used .exit)) (now (guard .exit)); released = now (out .exit) }) (called call (tableOfColumns columns) (stateOf clock (now (released .entry)) (now (completed .entry)) (now (used .entry)) (now (guard .entry))) (now (done .entry)) (now (out .entry))) ⌝ }
 {
     match call {
-        Call::Fresh => fresh_start(columns, state),
-        Call::Arrive(task) => arrive(columns, state, task),
-        Call::Tick => tick(columns, state, done, released),
+        Call::Fresh => fresh_in(columns, clock, released, completed, used, guard),
+        Call::Arrive(task) => arrive_in(columns, clock, released, completed, used, guard, task),
+        Call::Tick => tick_in(columns, clock, released, completed, used, guard, done, out),
     }
 }
 
@@ -66,9 +72,9 @@ pub(crate) fn make(
     table: &[u8],
     state: &mut [u8],
     done: &[u8],
-    released: &mut [u8],
+    out: &mut [u8],
 ) -> RackAnswer
-    ensures { λ r. ⌜ _≡_ {A = RackTickOutcome} (record { outcome = record { answer = r; state = now (state .exit) }; released = now (released .exit) }) (rackCall call (now (table .entry)) (now (state .entry)) (now (done .entry)) (now (released .entry))) ⌝ }
+    ensures { λ r. ⌜ _≡_ {A = RackTickOutcome} (record { outcome = record { answer = r; state = now (state .exit) }; released = now (out .exit) }) (rackCall call (now (table .entry)) (now (state .entry)) (now (done .entry)) (now (out .entry))) ⌝ }
 {
     if table.len() != TABLE_BYTES {
         return refused(Refusal::NotAPlan);
@@ -78,7 +84,28 @@ pub(crate) fn make(
         return untried(is_plan(columns));
     }
     let rows = rows_held(columns);
-    let before = state_in(state, rows);
-    let outcome = outcome_of(call, columns, before, done, released);
-    put_outcome(state, rows, outcome)
+    let mut released = [0u64; 128];
+    let mut completed = [0u64; 128];
+    let mut used = [0u64; 128];
+    let mut guard = [0u64; 128];
+    let clock = state_in(
+        state,
+        rows,
+        &mut released,
+        &mut completed,
+        &mut used,
+        &mut guard,
+    );
+    let called = call_in(
+        call,
+        columns,
+        clock,
+        &mut released,
+        &mut completed,
+        &mut used,
+        &mut guard,
+        done,
+        out,
+    );
+    put_called(state, rows, called, &released, &completed, &used, &guard)
 }

@@ -2,7 +2,7 @@
 use Prim.Native.Nat.{ℕ, zero, suc, pred, _+_, _-_, _≤_, _<_}
 use mathlib.Core.Path.{_≡_, refl, sym, _∙_, ap}
 use mathlib.Core.Bool.{Bool, true, false, cond, _&&_}
-use mathlib.Core.List.{List}
+use mathlib.Core.List.{List, []}
 use native.Mathlib.Omega.{arith}
 use native.Mathlib.Numerals.{add-one}
 use borrow.Author.Tests.{eq-eqb, ne-eqb}
@@ -11,7 +11,9 @@ use lib.ListN.{getD, set}
 use Rattle.facts.specs.Filled.{tab}
 use Rattle.facts.specs.FilledLaws.{getD-tab, tab-ext}
 use Rattle.table.specs.Plan.{Plan}
-use Rattle.guards.specs.Moment.{Moment}
+use Rattle.guards.specs.Moment.{Moment, momentOf}
+use Rattle.guards.specs.Lent.{stateOf}
+use Rattle.guards.specs.Rows.{planFrom}
 use Rattle.guards.specs.Running.{isOpen, better, best, running}
 use Rattle.guards.specs.ListsLaws.{tab-set}
 
@@ -87,3 +89,15 @@ best-ext P Q p q t u x (suc n) h =
     let e : best P t x n ≡ best Q u x n = best-ext P Q p q t u x n (λ r l. h r (omega arith)) in
     let d : t n ≡ u n = h n (omega arith) in
     rw (p n, d, e, better-ext P Q q (best Q u x n) n)
+
+-- Which row runs is read from what is released and completed alone.
+pub running-lists :
+    (n : ℕ) (processor priority released completed : List ℕ) (clock : ℕ) (used guard : List ℕ) {list : List ℕ}
+    → list ≡ tab (λ x. best (planFrom n [] [] processor priority []) (isOpen (momentOf (stateOf 0 released completed [] []))) x n) 17
+    → list ≡ tab (running (planFrom n [] [] processor priority []) (momentOf (stateOf clock released completed used guard))) 17
+unfolding running isOpen momentOf
+running-lists n processor priority released completed clock used guard e =
+    let P : Plan = planFrom n [] [] processor priority [] in
+    let t : ℕ → Bool = isOpen (momentOf (stateOf 0 released completed [] [])) in
+    let u : ℕ → Bool = isOpen (momentOf (stateOf clock released completed used guard)) in
+    e ∙ tab-ext _ _ 17 (λ x l. best-ext P P (λ r. refl) (λ r. refl) t u x n (λ r b. refl))

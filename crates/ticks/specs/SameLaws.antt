@@ -14,7 +14,7 @@ use Rattle.guards.specs.Running.{isOpen}
 use Rattle.guards.specs.Machine.{idle, opened, due, letGo}
 use Rattle.guards.specs.AlikeLaws.{all-ext}
 use Rattle.guards.specs.ListsLaws.{filled-again}
-use Rattle.guards.specs.StateLaws.{Sizes}
+use Rattle.guards.specs.Lent.{Long}
 
 -- Two moments say the same of the clock and of the first n rows.
 pub record Same (n : ℕ) (m k : Moment) : Type 0 where
@@ -56,24 +56,24 @@ with-same {n} {m} {k} a σ = λ i. record {
 }
 
 -- its lists stay as long as they were;
-pub with-sizes : (n : ℕ) (m : Moment) (σ : State) → Sizes σ → n ≤ 128 → Sizes (stateWith n m σ)
+pub with-long : (n : ℕ) (m : Moment) (σ : State) → Long n σ → Long n (stateWith n m σ)
 unfolding stateWith
-with-sizes n m σ z l = record {
-  released = length-filled (m .released) n (σ .released) (omega (arith, z .released)) ∙ z .released;
-  completed = length-filled (m .completed) n (σ .completed) (omega (arith, z .completed)) ∙ z .completed;
-  used = length-filled (m .used) n (σ .used) (omega (arith, z .used)) ∙ z .used;
-  guard = length-filled (m .guard) n (σ .guard) (omega (arith, z .guard)) ∙ z .guard;
+with-long n m σ z = record {
+  released = omega (arith, z .released, length-filled (m .released) n (σ .released) (z .released));
+  completed = omega (arith, z .completed, length-filled (m .completed) n (σ .completed) (z .completed));
+  used = omega (arith, z .used, length-filled (m .used) n (σ .used) (z .used));
+  guard = omega (arith, z .guard, length-filled (m .guard) n (σ .guard) (z .guard));
 }
 
 -- and what is made again is as made the last time.
-pub with-again : (n : ℕ) (m k : Moment) (σ : State) → Sizes σ → n ≤ 128 → stateWith n m (stateWith n k σ) ≡ stateWith n m σ
+pub with-again : (n : ℕ) (m k : Moment) (σ : State) → Long n σ → stateWith n m (stateWith n k σ) ≡ stateWith n m σ
 unfolding stateWith
-with-again n m k σ z l = λ i. record {
+with-again n m k σ z = λ i. record {
   clock = m .clock;
-  released = filled-again 0 (m .released) (k .released) n (σ .released) (omega (arith, z .released)) i;
-  completed = filled-again 0 (m .completed) (k .completed) n (σ .completed) (omega (arith, z .completed)) i;
-  used = filled-again 0 (m .used) (k .used) n (σ .used) (omega (arith, z .used)) i;
-  guard = filled-again 0 (m .guard) (k .guard) n (σ .guard) (omega (arith, z .guard)) i;
+  released = filled-again 0 (m .released) (k .released) n (σ .released) (z .released) i;
+  completed = filled-again 0 (m .completed) (k .completed) n (σ .completed) (z .completed) i;
+  used = filled-again 0 (m .used) (k .used) n (σ .used) (z .used) i;
+  guard = filled-again 0 (m .guard) (k .guard) n (σ .guard) (z .guard) i;
 }
 
 -- Two plans of n rows have the same periods, first rows and processors.

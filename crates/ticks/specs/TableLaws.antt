@@ -1,7 +1,7 @@
 -- A tick of a table's rows is a tick of its plan.
 use Prim.Native.Nat.{ℕ, suc, pred, _+_, _≤_, _<_}
 use mathlib.Core.Path.{_≡_, refl, sym, _∙_, ap}
-use mathlib.Core.Bool.{Bool, true, cond, not}
+use mathlib.Core.Bool.{Bool, true, false, cond, not, _&&_}
 use mathlib.Core.List.{List}
 use native.Mathlib.Omega.{arith}
 use lib.Dec.{ltb, eqb}
@@ -9,12 +9,12 @@ use lib.ListN.{length}
 use Rattle.facts.specs.Tests.{lowest}
 use Rattle.facts.specs.Filled.{filled}
 use Rattle.facts.specs.FilledLaws.{filled-ext}
-use Rattle.table.specs.Table.{Table, at, rows}
+use Rattle.table.specs.Table.{Table, at, rows, isPlan}
 use Rattle.table.specs.TableLaws.{Checked, checked}
 use Rattle.table.specs.Plan.{Plan, planOf, cost}
 use Rattle.table.specs.PlanLaws.{small-of}
 use Rattle.table.specs.Refusals.{lastClock}
-use Rattle.table.specs.declared.refusal.Refusal.the-variants.{TooShort, WrongDoneLength, WrongDoneByte, TimeUsedUp, ClockAtEnd}
+use Rattle.table.specs.declared.refusal.Refusal.the-variants.{NotAPlan, TooShort, WrongDoneLength, WrongDoneByte, TimeUsedUp, ClockAtEnd, StateDoesNotFit}
 use Rattle.guards.specs.declared.state.State.{State}
 use Rattle.guards.specs.declared.rows.Rows.{Rows}
 use Rattle.guards.specs.Moment.{Moment, momentOf, stateWith}
@@ -22,10 +22,14 @@ use Rattle.guards.specs.Running.{isOpen, best, running, runs}
 use Rattle.guards.specs.Machine.{worked, beforeRelease, due, ticked}
 use Rattle.guards.specs.Fits.{fits}
 use Rattle.guards.specs.Rows.{planFrom}
-use Rattle.guards.specs.Calls.{TickOutcome, isDone, stays, taken, usedUp, wrongDone}
+use Rattle.guards.specs.Calls.{TickOutcome, isDone, releasedByte, stays, taken, tick, usedUp, wrongDone}
+use Rattle.guards.specs.LentLaws.{held, tick-lent-no-plan, tick-lent-short, tick-lent-held}
+use Rattle.guards.specs.LentCalls.{leaves, fitsHeld, fits-held, fits-fits}
+use Rattle.guards.specs.declared.state.Called.{Called}
 use Rattle.guards.specs.BoundsLaws.{Bounded, bounded}
 use Rattle.guards.specs.RowsLaws.{RowsOf}
-use Rattle.ticks.specs.Ticking.{Ready, doneTick, openTick}
+use Rattle.guards.specs.Lent.{Long, refusedAt, tickOnLists}
+use Rattle.ticks.specs.Ticking.{Ready, doneTick, openTick, told}
 use Rattle.ticks.specs.FoundLaws.{best-ext}
 use Rattle.ticks.specs.TickingLaws.{lowest-ext}
 use Rattle.ticks.specs.SameLaws.{Same, Chained, with-same, opened-same, due-same, let-go-same}
@@ -35,13 +39,22 @@ module _ {T : Table} {R : Rows} (o : RowsOf T R) (σ : State) where
   listed = planFrom (R .count) (R .period) (R .first) (T .processor) (T .priority) (T .time)
 
   -- Where the state fits the plan, a tick knows what it needs.
-  pub ready : fits (planOf T) (momentOf σ) ≡ true → Ready R (T .processors) (T .processor) (T .priority) (T .time) σ
+  pub ready : Long (rows T) σ → fits (planOf T) (momentOf σ) ≡ true → Ready R (T .processors) (T .processor) (T .priority) (T .time) σ
   unfolding planOf cost
-  ready e =
+  ready z e =
       let ok : Checked T = checked T (o .plan) in
       let b : Bounded (planOf T) (momentOf σ) = bounded (planOf T) (momentOf σ) e in
       record {
+        some = omega (arith, o .count, small-of T ok .some);
         few = omega (arith, o .count, ok .rows-most);
+        long = record {
+          released = omega (arith, o .count, z .released);
+          completed = omega (arith, o .count, z .completed);
+          used = omega (arith, o .count, z .used);
+          guard = omega (arith, o .count, z .guard);
+        };
+        period-long = omega (arith, o .count, o .period-long);
+        first-long = omega (arith, o .count, o .first-long);
         processor-long = omega (arith, o .count, ok .row-lists .one);
         priority-long = omega (arith, o .count, ok .row-lists .two);
         time-long = omega (arith, o .count, ok .row-lists .three);
@@ -129,3 +142,33 @@ module _ {T : Table} {R : Rows} (o : RowsOf T R) (σ : State) where
       (cond (ltb (length released) (o .count i)) (stays (TooShort (o .count i)) σ released)
       (cond (eqb (σ .clock) lastClock) (stays ClockAtEnd σ released)
       (done-tick-same n done released i)))
+
+-- The answers of a tick on lists: 5, 14, and a tick of the plan.
+module _ (T : Table) (σ : State) (done out : List ℕ) where
+  pub tick-none :
+      {o : Called} → o ≡ refusedAt NotAPlan (σ .clock) → isPlan T ≡ false
+      → told out (leaves σ o) ≡ tickOnLists T σ out (tick T σ done out)
+  unfolding tick
+  tick-none e p =
+      ap (λ (o : Called). told out (leaves σ o)) e ∙ sym (tick-lent-no-plan T σ out (tick T σ done out) p ∙ rw p)
+
+  pub tick-unfit :
+      {o : Called} → o ≡ refusedAt StateDoesNotFit (σ .clock) → isPlan T ≡ true → fitsHeld T σ ≡ false
+      → told out (leaves σ o) ≡ tickOnLists T σ out (tick T σ done out)
+  unfolding tick
+  tick-unfit e p f = ap (λ (o : Called). told out (leaves σ o)) e ∙ go (held (rows T) σ) refl f
+    where
+      go :
+          (b : Bool) → held (rows T) σ ≡ b → b && fits (planOf T) (momentOf σ) ≡ false
+          → stays StateDoesNotFit σ out ≡ tickOnLists T σ out (tick T σ done out)
+      go false h f = sym (tick-lent-short T σ out (tick T σ done out) p h)
+      go true h f = sym (tick-lent-held T σ out (tick T σ done out) h ∙ rw (p, f))
+
+  pub tick-made :
+      {R : Rows} (o : RowsOf T R) → fitsHeld T σ ≡ true → {x : TickOutcome}
+      → x ≡ openTick (T .processors) (planFrom (R .count) (R .period) (R .first) (T .processor) (T .priority) (T .time)) σ done out
+      → x ≡ tickOnLists T σ out (tick T σ done out)
+  unfolding tick openTick doneTick planOf releasedByte
+  tick-made o f e =
+      e ∙ open-tick-same o σ (T .processors) done out
+      ∙ sym (tick-lent-held T σ out (tick T σ done out) (fits-held T σ f) ∙ rw (o .plan, fits-fits T σ f))

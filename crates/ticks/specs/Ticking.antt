@@ -18,11 +18,16 @@ use Rattle.guards.specs.Moment.{momentOf, stateWith}
 use Rattle.guards.specs.Machine.{beforeRelease, due, ticked}
 use Rattle.guards.specs.Rows.{planFrom}
 use Rattle.guards.specs.BoundsLaws.{Bounded}
+use Rattle.guards.specs.Lent.{Long}
 use Rattle.guards.specs.Calls.{TickOutcome, isDone, stays, taken, usedUp, wrongDone}
 
 -- What a tick knows of a plan's rows and of a state that fits them.
 pub record Ready (R : Rows) (processors : ℕ) (processor priority time : List ℕ) (σ : State) : Type 0 where
+  pub some : 0 < R .count
   pub few : R .count ≤ 128
+  pub long : Long (R .count) σ
+  pub period-long : R .count ≤ length (R .period)
+  pub first-long : R .count ≤ length (R .first)
   pub processor-long : R .count ≤ length processor
   pub priority-long : R .count ≤ length priority
   pub time-long : R .count ≤ length time

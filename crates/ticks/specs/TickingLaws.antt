@@ -4,6 +4,7 @@ use mathlib.Core.Path.{_≡_, refl, sym, _∙_, ap}
 use mathlib.Core.Bool.{Bool, cond, _&&_, _||_}
 use mathlib.Core.List.{List, []}
 use native.Mathlib.Omega.{arith}
+use borrow.Author.Tests.{lt-ltb, le-ltb}
 use lib.Dec.{ltb, eqb}
 use lib.ListN.{length, getD}
 use Rattle.facts.specs.Tests.{lowest}
@@ -17,11 +18,14 @@ use Rattle.guards.specs.Moment.{Moment, momentOf, stateWith}
 use Rattle.guards.specs.Running.{isOpen, best, running, runs}
 use Rattle.guards.specs.Machine.{worked, opened, beforeRelease, due, letGo, ticked}
 use Rattle.guards.specs.Rows.{planFrom}
-use Rattle.guards.specs.Calls.{isDone, wrongDone, usedUp}
-use Rattle.guards.specs.StateLaws.{Sizes}
+use Rattle.guards.specs.Calls.{isDone, taken, wrongDone, usedUp}
+use Rattle.guards.specs.Lent.{stateOf, outcomeOf, refusedAt, takenAt}
+use Rattle.guards.specs.LentCalls.{leaves}
+use Rattle.guards.specs.declared.state.Called.{Called}
+use Rattle.table.specs.declared.refusal.Refusal.the-variants.{WrongDoneByte, TimeUsedUp}
 use Rattle.ticks.specs.Done.{wrongHere, upHere, Timely}
 use Rattle.ticks.specs.Steps.{Placed, Working, Stepping, chains, readied, stepped, ran, runsIn, endsIn}
-use Rattle.ticks.specs.Ticking.{Ready, Going}
+use Rattle.ticks.specs.Ticking.{Ready, Going, told, doneTick}
 use Rattle.ticks.specs.FoundLaws.{best-ext, best-most}
 use Rattle.ticks.specs.SameLaws.{Same, Chained, with-same, opened-same, due-same, let-go-same}
 
@@ -61,13 +65,13 @@ module _ (R : Rows) (processor priority time : List ℕ) (σ : State) {list : Li
   up-lowest n done l = lowest-ext n (λ i b. rw (running-here (suc i) (omega arith)))
 
   -- A row that runs is one of the plan's.
-  module _ {processors : ℕ} (ready : Ready R processors processor priority time σ) (z : Sizes σ) where
+  module _ {processors : ℕ} (ready : Ready R processors processor priority time σ) where
     pub timely : (x : ℕ) → x ≤ 16 → Timely (at list x) (σ .used) time
     unfolding running momentOf
     timely x l =
         let b : at list x ≤ R .count = rw (running-here x l) (best-most plan (isOpen (momentOf σ)) x (R .count)) in
         record {
-          used-long = omega (arith, ready .few, z .used);
+          used-long = omega (arith, ready .long .used);
           time-long = omega (arith, ready .time-long);
           used-most = λ p. omega (arith, ready .bounded .used (pred (at list x)) (before (at list x) p b), ready .time-most (pred (at list x)) (before (at list x) p b));
         }
@@ -82,13 +86,18 @@ module _ (R : Rows) (processor priority time : List ℕ) (σ : State) {list : Li
         → Stepping R processor list done σ released
     unfolding momentOf
     stepping done released k = record {
+      some = ready .some;
+      long = ready .long;
+      period-long = ready .period-long;
+      first-long = ready .first-long;
       working = record {
         few = ready .few;
         processor-long = ready .processor-long;
         processor-least = ready .processor-least;
         processor-most = λ r l. omega (arith, ready .processor-most r l, k .done-long);
         running-long = omega (arith, list-long, k .done-long, ready .processors-most);
-        clock-most = ready .bounded .clock;
+        completed-long = ready .long .completed;
+        used-long = ready .long .used;
         completed-most = λ r l. omega (arith, ready .bounded .completed r l, ready .bounded .released r l, ready .bounded .clock);
         used-most = λ r l. omega (arith, ready .bounded .used r l, ready .time-most r l);
       };
@@ -139,3 +148,31 @@ module _ (R : Rows) (processor priority time : List ℕ) (σ : State) {list : Li
         → filled (λ r. cond (due (chains R processor) (readied R processor list done σ) r) 1 0) (R .count) released
         ≡ filled (λ r. cond (due plan (beforeRelease plan (momentOf σ) (isDone done)) r) 1 0) (R .count) released
     bytes-ticked done released = filled-ext _ _ (R .count) released (λ r l. rw (due-same (readied-is done) chained r l))
+
+-- The answers of a tick on lists, from 11 on.
+module _ (processors : ℕ) (P : Plan) (σ : State) (done out : List ℕ) where
+  pub done-wrong :
+      {o : Called} {w : ℕ} → o ≡ refusedAt (WrongDoneByte (w + 1)) (σ .clock)
+      → w ≡ lowest processors (wrongDone P (momentOf σ) done) → w < processors
+      → told out (leaves σ o) ≡ doneTick processors P σ done out
+  unfolding doneTick
+  done-wrong e f l = ap (λ (o : Called). told out (leaves σ o)) e ∙ rw (← f, lt-ltb _ _ l)
+
+  module _ {w : ℕ} (f : w ≡ lowest processors (wrongDone P (momentOf σ) done)) (l : processors ≤ w) where
+    pub done-up :
+        {o : Called} {u : ℕ} → o ≡ refusedAt (TimeUsedUp (u + 1)) (σ .clock)
+        → u ≡ lowest processors (usedUp P (momentOf σ) done) → u < processors
+        → told out (leaves σ o) ≡ doneTick processors P σ done out
+    unfolding doneTick
+    done-up e g m = ap (λ (o : Called). told out (leaves σ o)) e ∙ rw (← f, le-ltb _ _ l, ← g, lt-ltb _ _ m)
+
+    pub done-made :
+        {o : Called} {u : ℕ} {released completed used guard bytes : List ℕ} → o ≡ takenAt (σ .clock + 1) (σ .clock + 1)
+        → u ≡ lowest processors (usedUp P (momentOf σ) done) → processors ≤ u
+        → stateOf (σ .clock + 1) released completed used guard ≡ stateWith (P .rows) (ticked P (momentOf σ) (isDone done)) σ
+        → bytes ≡ filled (λ r. cond (due P (beforeRelease P (momentOf σ) (isDone done)) r) 1 0) (P .rows) out
+        → told bytes (outcomeOf o released completed used guard) ≡ doneTick processors P σ done out
+    unfolding doneTick
+    done-made {o} {u} {released} {completed} {used} {guard} {bytes} e g m state list =
+        ap (λ (o : Called). told bytes (outcomeOf o released completed used guard)) e
+        ∙ rw (← f, le-ltb _ _ l, ← g, le-ltb _ _ m) (λ i. record { outcome = taken (σ .clock + 1) (state i); released = list i })

@@ -4,12 +4,13 @@ use guards::rows::rows_of;
 use guards::state::State;
 ghost use mathlib.Core.Path.{_≡_};
 ghost use mathlib.Core.Bool.{cond};
-ghost use mathlib.Core.List.{[]};
-ghost use Prim.Native.Nat.{_≤_, _<_};
+ghost use mathlib.Core.List.{List, []};
+ghost use Prim.Native.Nat.{ℕ, _≤_, _<_};
 ghost use lib.ListN.{length};
 ghost use Rattle.facts.specs.Filled.{tab};
 ghost use Rattle.table.specs.Table.{tableOf};
 ghost use Rattle.guards.specs.Moment.{momentOf};
+ghost use Rattle.guards.specs.Lent.{stateOf};
 ghost use Rattle.guards.specs.Running.{better, running};
 ghost use Rattle.guards.specs.Rows.{planFrom};
 ghost use Rattle.guards.specs.Questions.{runningRow};
@@ -41,16 +42,17 @@ pub(crate) fn running_rows(
     rows: usize,
     processor: &[u64],
     priority: &[u64],
-    state: State,
+    released: &[u64],
+    completed: &[u64],
 ) -> [usize; 17]
-    requires { ⌜ Placed rows (now processor) × (rows ≤ length (now priority)) ⌝ }
-    ensures { λ r. ⌜ r ≡ tab (running (planFrom rows [] [] (now (processor .entry)) (now (priority .entry)) []) (momentOf state)) 17 ⌝ }
+    requires { ⌜ Placed rows (now processor) × (rows ≤ length (now priority)) × (rows ≤ length (now released)) × (rows ≤ length (now completed)) ⌝ }
+    ensures { λ r. ⌜ ((clock : ℕ) (used guard : List ℕ) → r ≡ tab (running (planFrom rows [] [] (now (processor .entry)) (now (priority .entry)) []) (momentOf (stateOf clock (now (released .entry)) (now (completed .entry)) used guard))) 17) ⌝ }
 {
     let mut found = [0usize; 17];
     let mut row: usize = 0;
     while row < rows {
         let on = processor[row] as usize;
-        let open = state.completed[row] < state.released[row];
+        let open = completed[row] < released[row];
         found[on] = next_best(open, found[on], row, priority);
         row += 1;
     }
@@ -88,6 +90,8 @@ pub fn running_row(
     if MOST_PROCESSORS < on {
         return 0;
     }
-    let found = running_rows(rows.count, processor, priority, state);
+    let released = state.released;
+    let completed = state.completed;
+    let found = running_rows(rows.count, processor, priority, &released, &completed);
     found[on as usize] as u64
 }

@@ -8,8 +8,8 @@ use crate::release::open_guards;
 use crate::running::running_rows;
 use crate::work::work;
 use guards::fits::rows_fit;
-use guards::rows::Rows;
-use guards::rows::rows_of;
+use guards::rows::rows_in;
+use guards::state::Called;
 use guards::state::LAST_CLOCK;
 use guards::state::Outcome;
 use guards::state::State;
@@ -18,114 +18,168 @@ use guards::state::taken;
 use table::refusal::Refusal;
 ghost use mathlib.Core.Path.{_≡_};
 ghost use mathlib.Core.Bool.{cond};
+ghost use Prim.Native.Nat.{_+_};
 ghost use Rattle.facts.specs.Filled.{filled};
 ghost use Rattle.table.specs.Table.{tableOf};
 ghost use Rattle.guards.specs.Moment.{stateWith};
 ghost use Rattle.guards.specs.Machine.{due};
 ghost use Rattle.guards.specs.Rows.{planFrom};
+ghost use Rattle.guards.specs.Lent.{outcomeOf, stateOf, tickOnLists};
 ghost use Rattle.guards.specs.Calls as calls;
 ghost use Rattle.guards.specs.Calls.{TickOutcome};
 ghost use Rattle.ticks.specs.Steps.{Stepping, chains, readied, stepped};
 ghost use Rattle.ticks.specs.Ticking.{Going, Ready, doneTick, openTick};
 
-// Steps 1 to 5.
+// Steps 1 to 5; the clock after them is one more.
 fn steps(
-    rows: Rows,
+    count: usize,
+    periods: &[u64],
+    firsts: &[bool],
     processor: &[u64],
     running: &[usize],
     done: &[u8],
-    state: State,
-    released: &mut [u8],
-) -> State
-    requires { ⌜ Stepping rows (now processor) (now running) (now done) state (now released) ⌝ }
-    ensures { λ r. ⌜ (r ≡ stateWith (rows .count) (stepped rows (now (processor .entry)) (now (running .entry)) (now (done .entry)) state) state) × (now (released .exit) ≡ filled (λ r. cond (due (chains rows (now (processor .entry))) (readied rows (now (processor .entry)) (now (running .entry)) (now (done .entry)) state) r) 1 0) (rows .count) (now (released .entry))) ⌝ }
+    clock: u64,
+    released: &mut [u64],
+    completed: &mut [u64],
+    used: &mut [u64],
+    guard: &mut [u64],
+    out: &mut [u8],
+)
+    requires { ⌜ Stepping (record { count = count; period = now periods; first = now firsts }) (now processor) (now running) (now done) (stateOf clock (now released) (now completed) (now used) (now guard)) (now out) ⌝ }
+    ensures { λ _. ⌜ (stateOf (clock + 1) (now (released .exit)) (now (completed .exit)) (now (used .exit)) (now (guard .exit)) ≡ stateWith count (stepped (record { count = count; period = now (periods .entry); first = now (firsts .entry) }) (now (processor .entry)) (now (running .entry)) (now (done .entry)) (stateOf clock (now (released .entry)) (now (completed .entry)) (now (used .entry)) (now (guard .entry)))) (stateOf clock (now (released .entry)) (now (completed .entry)) (now (used .entry)) (now (guard .entry)))) × (now (out .exit) ≡ filled (λ r. cond (due (chains (record { count = count; period = now (periods .entry); first = now (firsts .entry) }) (now (processor .entry))) (readied (record { count = count; period = now (periods .entry); first = now (firsts .entry) }) (now (processor .entry)) (now (running .entry)) (now (done .entry)) (stateOf clock (now (released .entry)) (now (completed .entry)) (now (used .entry)) (now (guard .entry)))) r) 1 0) count (now (out .entry))) ⌝ }
 {
-    let worked = work(rows.count, processor, running, done, state);
-    let busy = busy_processors(rows.count, processor, worked);
-    let opened = open_guards(rows, processor, &busy, worked);
-    let_go(rows, opened, released)
+    work(count, processor, running, done, completed, used);
+    let busy = busy_processors(count, processor, released, completed);
+    open_guards(count, firsts, processor, &busy, clock + 1, guard);
+    let_go(
+        count,
+        periods,
+        firsts,
+        clock + 1,
+        released,
+        completed,
+        guard,
+        out,
+    );
 }
 
 // A tick whose done list, release list and clock are right: 11, 12, and the steps.
 fn tick_done(
-    rows: Rows,
+    count: usize,
+    periods: &[u64],
+    firsts: &[bool],
     processors: usize,
     processor: &[u64],
     priority: &[u64],
     time: &[u64],
-    state: State,
+    clock: u64,
+    released: &mut [u64],
+    completed: &mut [u64],
+    used: &mut [u64],
+    guard: &mut [u64],
     done: &[u8],
-    released: &mut [u8],
-) -> Outcome
-    requires { ⌜ Going rows processors (now processor) (now priority) (now time) state (now done) (now released) ⌝ }
-    ensures { λ r. ⌜ _≡_ {A = TickOutcome} (record { outcome = r; released = now (released .exit) }) (doneTick processors (planFrom (rows .count) (rows .period) (rows .first) (now (processor .entry)) (now (priority .entry)) (now (time .entry))) state (now (done .entry)) (now (released .entry))) ⌝ }
+    out: &mut [u8],
+) -> Called
+    requires { ⌜ Going (record { count = count; period = now periods; first = now firsts }) processors (now processor) (now priority) (now time) (stateOf clock (now released) (now completed) (now used) (now guard)) (now done) (now out) ⌝ }
+    ensures { λ r. ⌜ _≡_ {A = TickOutcome} (record { outcome = outcomeOf r (now (released .exit)) (now (completed .exit)) (now (used .exit)) (now (guard .exit)); released = now (out .exit) }) (doneTick processors (planFrom count (now (periods .entry)) (now (firsts .entry)) (now (processor .entry)) (now (priority .entry)) (now (time .entry))) (stateOf clock (now (released .entry)) (now (completed .entry)) (now (used .entry)) (now (guard .entry))) (now (done .entry)) (now (out .entry))) ⌝ }
 {
-    let running = running_rows(rows.count, processor, priority, state);
+    let running = running_rows(count, processor, priority, released, completed);
     let wrong = lowest_wrong(processors, done, &running);
-    let used = state.used;
-    let up = lowest_up(processors, done, &running, &used, time);
     if wrong < processors {
-        return refused(Refusal::WrongDoneByte(wrong as u64 + 1), state);
+        return refused(Refusal::WrongDoneByte(wrong as u64 + 1), clock);
     }
+    let up = lowest_up(processors, done, &running, used, time);
     if up < processors {
-        return refused(Refusal::TimeUsedUp(up as u64 + 1), state);
+        return refused(Refusal::TimeUsedUp(up as u64 + 1), clock);
     }
-    let next = steps(rows, processor, &running, done, state, released);
-    taken(next.clock, next)
+    steps(
+        count,
+        periods,
+        firsts,
+        processor,
+        &running,
+        done,
+        clock,
+        released,
+        completed,
+        used,
+        guard,
+        out,
+    );
+    taken(clock + 1, clock + 1)
 }
 
 // A tick of a plan that the state fits: 10, 7, 13, and the rest.
 fn tick_open(
-    rows: Rows,
+    count: usize,
+    periods: &[u64],
+    firsts: &[bool],
     processors: usize,
     processor: &[u64],
     priority: &[u64],
     time: &[u64],
-    state: State,
+    clock: u64,
+    released: &mut [u64],
+    completed: &mut [u64],
+    used: &mut [u64],
+    guard: &mut [u64],
     done: &[u8],
-    released: &mut [u8],
-) -> Outcome
-    requires { ⌜ Ready rows processors (now processor) (now priority) (now time) state ⌝ }
-    ensures { λ r. ⌜ _≡_ {A = TickOutcome} (record { outcome = r; released = now (released .exit) }) (openTick processors (planFrom (rows .count) (rows .period) (rows .first) (now (processor .entry)) (now (priority .entry)) (now (time .entry))) state (now (done .entry)) (now (released .entry))) ⌝ }
+    out: &mut [u8],
+) -> Called
+    requires { ⌜ Ready (record { count = count; period = now periods; first = now firsts }) processors (now processor) (now priority) (now time) (stateOf clock (now released) (now completed) (now used) (now guard)) ⌝ }
+    ensures { λ r. ⌜ _≡_ {A = TickOutcome} (record { outcome = outcomeOf r (now (released .exit)) (now (completed .exit)) (now (used .exit)) (now (guard .exit)); released = now (out .exit) }) (openTick processors (planFrom count (now (periods .entry)) (now (firsts .entry)) (now (processor .entry)) (now (priority .entry)) (now (time .entry))) (stateOf clock (now (released .entry)) (now (completed .entry)) (now (used .entry)) (now (guard .entry))) (now (done .entry)) (now (out .entry))) ⌝ }
 {
     if done.len() != processors {
-        return refused(Refusal::WrongDoneLength(processors as u64), state);
+        return refused(Refusal::WrongDoneLength(processors as u64), clock);
     }
-    if released.len() < rows.count {
-        return refused(Refusal::TooShort(rows.count as u64), state);
+    if out.len() < count {
+        return refused(Refusal::TooShort(count as u64), clock);
     }
-    if state.clock == LAST_CLOCK {
-        return refused(Refusal::ClockAtEnd, state);
+    if clock == LAST_CLOCK {
+        return refused(Refusal::ClockAtEnd, clock);
     }
     tick_done(
-        rows,
+        count,
+        periods,
+        firsts,
         processors,
         processor,
         priority,
         time,
-        state,
-        done,
+        clock,
         released,
+        completed,
+        used,
+        guard,
+        done,
+        out,
     )
 }
 
-// One tick. The done list has a byte for each processor, and the release list gets one for each row.
-pub fn tick(
+// One tick of the state in four lists. The done list has a byte for each processor, and the release list gets one for each
+// row.
+pub fn tick_in<'a>(
     processors: u64,
     tasks: u64,
-    period: &[u64],
-    deadline: &[u64],
-    steps: &[u64],
-    processor: &[u64],
-    priority: &[u64],
-    time: &[u64],
-    state: State,
+    period: &'a [u64],
+    deadline: &'a [u64],
+    steps: &'a [u64],
+    processor: &'a [u64],
+    priority: &'a [u64],
+    time: &'a [u64],
+    clock: u64,
+    released: &mut [u64],
+    completed: &mut [u64],
+    used: &mut [u64],
+    guard: &mut [u64],
     done: &[u8],
-    released: &mut [u8],
-) -> Outcome
-    ensures { λ r. ⌜ _≡_ {A = TickOutcome} (record { outcome = r; released = now (released .exit) }) (calls.tick (tableOf processors tasks (now (period .entry)) (now (deadline .entry)) (now (steps .entry)) (now (processor .entry)) (now (priority .entry)) (now (time .entry))) state (now (done .entry)) (now (released .entry))) ⌝ }
+    out: &mut [u8],
+) -> Called
+    ensures { λ r. ⌜ _≡_ {A = TickOutcome} (record { outcome = outcomeOf r (now (released .exit)) (now (completed .exit)) (now (used .exit)) (now (guard .exit)); released = now (out .exit) }) (tickOnLists (tableOf processors tasks (now (period .entry)) (now (deadline .entry)) (now (steps .entry)) (now (processor .entry)) (now (priority .entry)) (now (time .entry))) (stateOf clock (now (released .entry)) (now (completed .entry)) (now (used .entry)) (now (guard .entry))) (now (out .entry)) (calls.tick (tableOf processors tasks (now (period .entry)) (now (deadline .entry)) (now (steps .entry)) (now (processor .entry)) (now (priority .entry)) (now (time .entry))) (stateOf clock (now (released .entry)) (now (completed .entry)) (now (used .entry)) (now (guard .entry))) (now (done .entry)) (now (out .entry)))) ⌝ }
 {
-    let rows = rows_of(
+    let mut periods = [0u64; 128];
+    let mut firsts = [false; 128];
+    let count = rows_in(
         processors,
         tasks,
         period,
@@ -134,21 +188,90 @@ pub fn tick(
         processor,
         priority,
         time,
+        &mut periods,
+        &mut firsts,
     );
-    if rows.count == 0 {
-        return refused(Refusal::NotAPlan, state);
+    if count == 0 {
+        return refused(Refusal::NotAPlan, clock);
     }
-    if !rows_fit(rows, time, state) {
-        return refused(Refusal::StateDoesNotFit, state);
+    if !rows_fit(
+        count,
+        &periods,
+        &firsts,
+        time,
+        clock,
+        released,
+        completed,
+        used,
+        guard,
+    ) {
+        return refused(Refusal::StateDoesNotFit, clock);
     }
     tick_open(
-        rows,
+        count,
+        &periods,
+        &firsts,
         processors as usize,
         processor,
         priority,
         time,
-        state,
+        clock,
+        released,
+        completed,
+        used,
+        guard,
+        done,
+        out,
+    )
+}
+
+// One tick. The done list has a byte for each processor, and the release list gets one for each row.
+pub fn tick<'a>(
+    processors: u64,
+    tasks: u64,
+    period: &'a [u64],
+    deadline: &'a [u64],
+    steps: &'a [u64],
+    processor: &'a [u64],
+    priority: &'a [u64],
+    time: &'a [u64],
+    state: State,
+    done: &[u8],
+    released: &mut [u8],
+) -> Outcome
+    ensures { λ r. ⌜ _≡_ {A = TickOutcome} (record { outcome = r; released = now (released .exit) }) (calls.tick (tableOf processors tasks (now (period .entry)) (now (deadline .entry)) (now (steps .entry)) (now (processor .entry)) (now (priority .entry)) (now (time .entry))) state (now (done .entry)) (now (released .entry))) ⌝ }
+{
+    let mut own = state.released;
+    let mut completed = state.completed;
+    let mut used = state.used;
+    let mut guard = state.guard;
+    let called = tick_in(
+        processors,
+        tasks,
+        period,
+        deadline,
+        steps,
+        processor,
+        priority,
+        time,
+        state.clock,
+        &mut own,
+        &mut completed,
+        &mut used,
+        &mut guard,
         done,
         released,
-    )
+    );
+    let answer = called.answer;
+    let clock = called.clock;
+    Outcome {
+        answer: answer,
+        state: State {
+            clock: clock,
+            released: own,
+            completed: completed,
+            used: used,
+            guard: guard,
+        },
+    }
 }

@@ -1,6 +1,8 @@
 use Rattle.guards.specs.Arrival.{arrivedAt}
+use Rattle.guards.specs.Lent.{outcomeOf}
+use Rattle.guards.specs.declared.state.Called.{Called}
 use borrow.Author.Tests.{lt-ltb, le-ltb}
-use mathlib.Core.Path.{_∙_}
+use mathlib.Core.Path.{_∙_, ap}
 use native.Mathlib.Omega.{arith}
 use borrow.Author.Needs.{needs}
 use Rattle.guards.proofs.arrive.arrive_at.Statement.{statement}
@@ -10,84 +12,94 @@ use Rattle.guards.proofs.arrive.arrive_at.Lts as lts
 use Rattle.guards.proofs.state.refused.Reads as refused-reads
 use Rattle.guards.proofs.state.taken.Reads as taken-reads
 
--- src/arrive.rt:49:17
-mul-guard : tie.Need-mul-guard
-mul-guard c = search needs
+-- src/arrive.rt:57:15
+mul-due : tie.Need-mul-due
+mul-due c = search needs
 
--- src/arrive.rt:49:17
-element-copy-out-guard : tie.Need-element-copy-out-guard
-element-copy-out-guard c = search needs
+-- src/arrive.rt:57:15
+slice-read-due : tie.Need-slice-read-due
+slice-read-due c = search needs
 
--- src/arrive.rt:51:9
+-- src/arrive.rt:59:9
 refused-requires : tie.Need-refused-requires
 refused-requires c κs = search needs
 
--- src/arrive.rt:51:9
+-- src/arrive.rt:59:9
 returns : tie.Need-returns
 unfolding arrivedAt
-returns c = c .refused .ensures ∙ rw (lt-ltb _ _ (c .before .if1 .taken))
+returns c = λ completed used. ap (λ (o : Called). outcomeOf o (c .before .before .before .before .before .args .released .now) completed used (c .before .before .before .before .before .args .guard .now)) (c .refused .ensures) ∙ rw (lt-ltb _ _ (c .before .if1 .taken))
 
--- src/arrive.rt:53:26
-mul-next : tie.Need-mul-next
-mul-next c = search needs
+-- src/arrive.rt:61:21
+mul-released : tie.Need-mul-released
+mul-released c = search needs
 
--- src/arrive.rt:53:26
-element-copy-out-next : tie.Need-element-copy-out-next
-element-copy-out-next c = search needs
+-- src/arrive.rt:61:21
+slice-read-released : tie.Need-slice-read-released
+slice-read-released c = search needs
 
--- src/arrive.rt:53:26
-add-next : tie.Need-add-next
-add-next c = search needs
+-- src/arrive.rt:61:21
+add-released : tie.Need-add-released
+add-released c = search needs
 
--- src/arrive.rt:53:5
-mul-next-2 : tie.Need-mul-next-2
-mul-next-2 c = search needs
+-- src/arrive.rt:61:5
+mul-released-2 : tie.Need-mul-released-2
+mul-released-2 c = search needs
 
--- src/arrive.rt:53:5
-element-write-next : tie.Need-element-write-next
-element-write-next c = search needs
+-- src/arrive.rt:61:5
+slice-write-released : tie.Need-slice-write-released
+slice-write-released c = search needs
 
--- src/arrive.rt:54:23
-add-next-2 : tie.Need-add-next-2
-add-next-2 c = search needs
+-- src/arrive.rt:62:18
+add-guard : tie.Need-add-guard
+add-guard c = search needs
 
--- src/arrive.rt:54:5
-mul-next-3 : tie.Need-mul-next-3
-mul-next-3 c = search needs
+-- src/arrive.rt:62:5
+mul-guard : tie.Need-mul-guard
+mul-guard c = search needs
 
--- src/arrive.rt:54:5
-element-write-next-2 : tie.Need-element-write-next-2
-element-write-next-2 c = search needs
+-- src/arrive.rt:62:5
+slice-write-guard : tie.Need-slice-write-guard
+slice-write-guard c = search needs
 
--- src/arrive.rt:55:11
+-- src/arrive.rt:63:11
 add-taken : tie.Need-add-taken
 add-taken c = search needs
 
--- src/arrive.rt:55:5
+-- src/arrive.rt:63:5
 taken-requires : tie.Need-taken-requires
 taken-requires c κs = search needs
 
--- src/arrive.rt:44:1
+-- src/arrive.rt:47:1
+same-length : tie.Need-same-length
+same-length c = search needs
+
+-- src/arrive.rt:47:1
+same-length-2 : tie.Need-same-length-2
+same-length-2 c = search needs
+
+-- src/arrive.rt:47:1
 returns-2 : tie.Need-returns-2
 unfolding arrivedAt
-returns-2 c = c .taken .ensures ∙ rw (le-ltb _ _ (c .before .before .if1 .left))
+returns-2 c = λ completed used. rw (c .taken .ensures, le-ltb _ _ (c .before .before .if1 .left))
 
 pub arrive-at-spec : {M : Type 1} → statement M
 arrive-at-spec =
     tie.close
     (tie.spec
-    mul-guard
-    element-copy-out-guard
+    mul-due
+    slice-read-due
     refused-requires
     returns
-    mul-next
-    element-copy-out-next
-    add-next
-    mul-next-2
-    element-write-next
-    add-next-2
-    mul-next-3
-    element-write-next-2
+    mul-released
+    slice-read-released
+    add-released
+    mul-released-2
+    slice-write-released
+    add-guard
+    mul-guard
+    slice-write-guard
     add-taken
     taken-requires
+    same-length
+    same-length-2
     returns-2)

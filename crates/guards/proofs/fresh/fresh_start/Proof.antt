@@ -1,6 +1,5 @@
-use Rattle.guards.specs.RowsLaws.{no-plan, plan-rows}
-use Rattle.guards.specs.Calls.{freshStart}
-use Rattle.table.specs.TableLaws.{checked}
+use Rattle.guards.proofs.Sizes.{sizes}
+use Rattle.guards.specs.LentLaws.{lent-sized}
 use mathlib.Core.Path.{_∙_}
 use native.Mathlib.Omega.{arith}
 use borrow.Author.Needs.{needs}
@@ -8,40 +7,39 @@ use Rattle.guards.proofs.fresh.fresh_start.Statement.{statement}
 use Rattle.guards.proofs.fresh.fresh_start.Tie as tie
 use Rattle.guards.proofs.fresh.fresh_start.Reads as reads
 use Rattle.guards.proofs.fresh.fresh_start.Lts as lts
-use Rattle.guards.proofs.fresh.cleared.Reads as cleared-reads
-use Rattle.guards.proofs.rows.rows_of.Reads as rows-of-reads
-use Rattle.guards.proofs.state.refused.Reads as refused-reads
-use Rattle.guards.proofs.state.taken.Reads as taken-reads
+use Rattle.guards.proofs.fresh.fresh_in.Reads as fresh-in-reads
 
--- src/fresh.rt:48:9
-rows-of-requires : tie.Need-rows-of-requires
-rows-of-requires c κs = search needs
+-- src/fresh.rt:110:9
+slice-aggregate-fresh-in : tie.Need-slice-aggregate-fresh-in
+slice-aggregate-fresh-in c = search needs
 
--- src/fresh.rt:59:9
-refused-requires : tie.Need-refused-requires
-refused-requires c κs = search needs
+-- src/fresh.rt:111:9
+slice-aggregate-fresh-in-2 : tie.Need-slice-aggregate-fresh-in-2
+slice-aggregate-fresh-in-2 c = search needs
 
--- src/fresh.rt:59:9
+-- src/fresh.rt:112:9
+slice-aggregate-fresh-in-3 : tie.Need-slice-aggregate-fresh-in-3
+slice-aggregate-fresh-in-3 c = search needs
+
+-- src/fresh.rt:113:9
+slice-aggregate-fresh-in-4 : tie.Need-slice-aggregate-fresh-in-4
+slice-aggregate-fresh-in-4 c = search needs
+
+-- src/fresh.rt:100:9
+fresh-in-requires : tie.Need-fresh-in-requires
+fresh-in-requires c κs = search needs
+
+-- src/fresh.rt:83:1
 returns : tie.Need-returns
-unfolding freshStart
-returns c = c .refused .ensures ∙ rw (no-plan _ (c .before .before .before .rows-of .ensures) (c .before .if1 .taken))
-
--- src/fresh.rt:61:14
-cleared-requires : tie.Need-cleared-requires
-cleared-requires c κs = let o = plan-rows _ (c .before .before .rows-of .ensures) (c .if1 .left) in
-    omega (arith, o .count, checked _ (o .plan) .rows-most)
-
--- src/fresh.rt:61:5
-taken-requires : tie.Need-taken-requires
-taken-requires c κs = search needs
-
--- src/fresh.rt:35:1
-returns-2 : tie.Need-returns-2
-unfolding freshStart
-returns-2 c = let o = plan-rows _ (c .before .before .before .before .rows-of .ensures) (c .before .before .if1 .left) in
-    c .taken .ensures ∙ rw (o .plan, c .before .cleared .ensures, o .count)
+returns c = c .before .before .before .before .fresh-in .ensures ∙ lent-sized _ (c .before .before .before .before .before .before .before .before .before .before .before .before .before .before .before .before .before .before .before .args .state) _ (sizes (c .before .before .before .before .before .before .before .before .before .before .before .before .before .before .before .before .before .before .before .args .state) _ (c .before .before .before .before .before .before .before .before .before .before .before .before .before .before .before .before .before .before .before .good .1 .1 .1 .1 .1 .1 .1 .1 .0))
 
 pub fresh-start-spec : {M : Type 1} → statement M
 fresh-start-spec =
     tie.close
-    (tie.spec rows-of-requires refused-requires returns cleared-requires taken-requires returns-2)
+    (tie.spec
+    slice-aggregate-fresh-in
+    slice-aggregate-fresh-in-2
+    slice-aggregate-fresh-in-3
+    slice-aggregate-fresh-in-4
+    fresh-in-requires
+    returns)

@@ -1,17 +1,18 @@
-use Rattle.ticks.specs.TurnLaws.{Made, made-none, made-read, made-store, made-keep, made-all}
-use Rattle.guards.proofs.Sizes.{sizes}
+use Rattle.ticks.specs.TurnLaws.{made-read, made-store}
 use Rattle.guards.specs.Rows.{planFrom}
+use Rattle.guards.specs.Lent.{stateOf}
 use Rattle.guards.specs.Machine.{due, letGo}
 use Rattle.guards.specs.Moment.{Moment, momentOf}
 use Rattle.table.specs.Plan.{Plan}
+use Rattle.table.specs.Table.{at}
 use Rattle.facts.specs.FilledLaws.{filled-none}
 use Rattle.facts.specs.Filled.{filled}
-use lib.ListN.{length, getD, length-set}
+use lib.ListN.{length, length-set}
 use native.Mathlib.Numerals.{add-one}
 use mathlib.Core.List.{[]}
 use mathlib.Core.Bool.{cond}
 use mathlib.Core.Path.{_≡_, refl, _∙_}
-use Prim.Native.Nat.{ℕ, pred, _+_, _≤_, _<_, _-_}
+use Prim.Native.Nat.{pred, _≤_, _-_}
 use native.Mathlib.Omega.{arith}
 use borrow.Author.Needs.{needs}
 use Rattle.ticks.proofs.release.let_go.Statement.{statement}
@@ -23,153 +24,155 @@ use Rattle.ticks.proofs.release.byte_of.Reads as byte-of-reads
 use Rattle.ticks.proofs.release.is_due.Reads as is-due-reads
 
 abbrev Inv-loop : tie.InvT-loop
-Inv-loop released₀ rows next₀ before₀ row₀ released next before row =
-    (row ≤ rows .count) × (before ≡ getD (next₀ .completed) (pred row) 0)
-    × Made row (letGo (planFrom (rows .count) (rows .period) (rows .first) [] [] []) (momentOf next₀)) next₀ next
-    × (released ≡ filled (λ r. cond (due (planFrom (rows .count) (rows .period) (rows .first) [] [] []) (momentOf next₀) r) 1 0) row released₀)
-    × (length released ≡ length released₀)
+Inv-loop rows periods firsts clock released₀ completed guard₀ out₀ before₀ row₀ released guard out before row =
+    (row ≤ rows) × (before ≡ at completed (pred row))
+    × (released ≡ filled (letGo (planFrom rows periods firsts [] [] []) (momentOf (stateOf clock released₀ completed [] guard₀)) .released) row released₀) × (length released ≡ length released₀)
+    × (guard ≡ filled (letGo (planFrom rows periods firsts [] [] []) (momentOf (stateOf clock released₀ completed [] guard₀)) .guard) row guard₀) × (length guard ≡ length guard₀)
+    × (out ≡ filled (λ r. cond (due (planFrom rows periods firsts [] [] []) (momentOf (stateOf clock released₀ completed [] guard₀)) r) 1 0) row out₀) × (length out ≡ length out₀)
 
 abbrev μ-loop : tie.MeasureT-loop
-μ-loop released₀ rows next₀ before₀ row₀ released next before row = rows .count - row
+μ-loop rows periods firsts clock released₀ completed guard₀ out₀ before₀ row₀ released guard out before row = rows - row
 
 abbrev plan : tie.Start Inv-loop μ-loop → Plan
-plan s = planFrom (s .args .t1 .count) (s .args .t1 .period) (s .args .t1 .first) [] [] []
+plan s = planFrom (s .args .rows) (s .args .periods .now) (s .args .firsts .now) [] [] []
 
--- src/release.rt:90:22
-element-copy-out-before : tie.Need-element-copy-out-before Inv-loop μ-loop
-element-copy-out-before c = search needs
+abbrev moment : tie.Start Inv-loop μ-loop → Moment
+moment s = momentOf (stateOf (s .args .clock) (s .args .released .now) (s .args .completed .now) [] (s .args .guard .now))
 
--- src/release.rt:92:5
+-- src/release.rt:107:22
+shared-slice-read-before : tie.Need-shared-slice-read-before Inv-loop μ-loop
+shared-slice-read-before c = search needs
+
+-- src/release.rt:109:5
 loop-holds : tie.Need-loop-holds Inv-loop μ-loop
-loop-holds c = (omega arith, refl, made-none _ _, filled-none _ _, refl)
+loop-holds c = (omega arith, refl, filled-none _ _, refl, filled-none _ _, refl, filled-none _ _, refl)
 
--- src/release.rt:93:21
+-- src/release.rt:110:21
 mul-count : tie.Need-mul-count Inv-loop μ-loop
 mul-count c = search needs
 
--- src/release.rt:93:21
-element-copy-out-count : tie.Need-element-copy-out-count Inv-loop μ-loop
-element-copy-out-count c = search needs
+-- src/release.rt:110:21
+slice-read-count : tie.Need-slice-read-count Inv-loop μ-loop
+slice-read-count c = search needs
 
--- src/release.rt:94:21
-mul-guard : tie.Need-mul-guard Inv-loop μ-loop
-mul-guard c = search needs
+-- src/release.rt:111:19
+mul-own : tie.Need-mul-own Inv-loop μ-loop
+mul-own c = search needs
 
--- src/release.rt:94:21
-element-copy-out-guard : tie.Need-element-copy-out-guard Inv-loop μ-loop
-element-copy-out-guard c = search needs
+-- src/release.rt:111:19
+slice-read-own : tie.Need-slice-read-own Inv-loop μ-loop
+slice-read-own c = search needs
 
--- src/release.rt:95:26
-element-copy-out-is-due : tie.Need-element-copy-out-is-due Inv-loop μ-loop
-element-copy-out-is-due c = search needs
+-- src/release.rt:112:26
+shared-slice-read-is-due : tie.Need-shared-slice-read-is-due Inv-loop μ-loop
+shared-slice-read-is-due c = search needs
 
--- src/release.rt:95:13
+-- src/release.rt:112:13
 is-due-requires : tie.Need-is-due-requires Inv-loop μ-loop
 is-due-requires c κs = search needs
 
--- src/release.rt:96:42
+-- src/release.rt:113:37
 add-either : tie.Need-add-either Inv-loop μ-loop
 add-either c = let l = c .before .before .before .before .before .loop in
-    let s = c .before .before .before .before .before .before .before .before in
-    omega (arith, made-read _ (l .row) (s .args .state .released) (l .inv .2 .released), s .pre .released-most (l .row) (omega arith))
+    let s = c .before .before .before .before .before .before .before .before .before .before .before .before .before in
+    omega (arith, made-read (letGo (plan s) (moment s) .released) (l .row) (s .args .released .now) (l .inv .2), s .pre .released-most (l .row) (omega arith))
 
--- src/release.rt:96:30
+-- src/release.rt:113:25
 either-requires : tie.Need-either-requires Inv-loop μ-loop
 either-requires c κs = search needs
 
--- src/release.rt:96:9
-mul-next : tie.Need-mul-next Inv-loop μ-loop
-mul-next c = search needs
+-- src/release.rt:113:9
+mul-released : tie.Need-mul-released Inv-loop μ-loop
+mul-released c = search needs
 
--- src/release.rt:96:9
-element-write-next : tie.Need-element-write-next Inv-loop μ-loop
-element-write-next c = search needs
-
--- src/release.rt:97:52
-mul-either : tie.Need-mul-either Inv-loop μ-loop
-mul-either c = search needs
-
--- src/release.rt:97:52
-element-copy-out-either : tie.Need-element-copy-out-either Inv-loop μ-loop
-element-copy-out-either c = search needs
-
--- src/release.rt:97:39
-add-either-2 : tie.Need-add-either-2 Inv-loop μ-loop
-add-either-2 c = let l = c .before .before .before .before .before .before .before .loop in
-    let s = c .before .before .before .before .before .before .before .before .before .before in
-    omega (arith, l .inv .2 .clock, s .pre .period-most (l .row) (omega arith))
-
--- src/release.rt:97:27
-either-requires-2 : tie.Need-either-requires-2 Inv-loop μ-loop
-either-requires-2 c κs = search needs
-
--- src/release.rt:97:9
-mul-next-2 : tie.Need-mul-next-2 Inv-loop μ-loop
-mul-next-2 c = search needs
-
--- src/release.rt:97:9
-element-write-next-2 : tie.Need-element-write-next-2 Inv-loop μ-loop
-element-write-next-2 c = search needs
-
--- src/release.rt:98:25
-byte-of-requires : tie.Need-byte-of-requires Inv-loop μ-loop
-byte-of-requires c κs = search needs
-
--- src/release.rt:98:9
+-- src/release.rt:113:9
 slice-write-released : tie.Need-slice-write-released Inv-loop μ-loop
 slice-write-released c = search needs
 
--- src/release.rt:99:18
+-- src/release.rt:114:42
+mul-either : tie.Need-mul-either Inv-loop μ-loop
+mul-either c = search needs
+
+-- src/release.rt:114:42
+shared-slice-read-either : tie.Need-shared-slice-read-either Inv-loop μ-loop
+shared-slice-read-either c = search needs
+
+-- src/release.rt:114:34
+add-either-2 : tie.Need-add-either-2 Inv-loop μ-loop
+add-either-2 c = omega (arith, c .before .before .before .before .before .before .before .before .before .before .before .before .before .before .before .pre .period-most (c .before .before .before .before .before .before .before .loop .row) (omega arith))
+
+-- src/release.rt:114:22
+either-requires-2 : tie.Need-either-requires-2 Inv-loop μ-loop
+either-requires-2 c κs = search needs
+
+-- src/release.rt:114:9
+mul-guard : tie.Need-mul-guard Inv-loop μ-loop
+mul-guard c = search needs
+
+-- src/release.rt:114:9
+slice-write-guard : tie.Need-slice-write-guard Inv-loop μ-loop
+slice-write-guard c = search needs
+
+-- src/release.rt:115:20
+byte-of-requires : tie.Need-byte-of-requires Inv-loop μ-loop
+byte-of-requires c κs = search needs
+
+-- src/release.rt:115:9
+slice-write-out : tie.Need-slice-write-out Inv-loop μ-loop
+slice-write-out c = search needs
+
+-- src/release.rt:116:18
 mul-before : tie.Need-mul-before Inv-loop μ-loop
 mul-before c = search needs
 
--- src/release.rt:99:18
-element-copy-out-before-2 : tie.Need-element-copy-out-before-2 Inv-loop μ-loop
-element-copy-out-before-2 c = search needs
+-- src/release.rt:116:18
+shared-slice-read-before-2 : tie.Need-shared-slice-read-before-2 Inv-loop μ-loop
+shared-slice-read-before-2 c = search needs
 
--- src/release.rt:100:9
+-- src/release.rt:117:9
 add-row : tie.Need-add-row Inv-loop μ-loop
 add-row c = search needs
 
--- src/release.rt:92:5
+-- src/release.rt:109:5
 loop-less : tie.Need-loop-less Inv-loop μ-loop
 loop-less c = search needs
 
--- src/release.rt:92:5
+-- src/release.rt:109:5
 loop-again : tie.Need-loop-again Inv-loop μ-loop
 unfolding letGo due momentOf
 loop-again c = let l = c .before .before .before .before .before .before .before .before .before .before .loop in
-    let s = c .before .before .before .before .before .before .before .before .before .before .before .before .before in
-    let d = l .inv .2 in
-    let σ = s .args .state in
-    let z = sizes σ _ (s .good .1 .0) in
-    let m = letGo (plan s) (momentOf σ) in
-    let readr = made-read (m .released) (l .row) (σ .released) (d .released) in
-    let readg = made-read (m .guard) (l .row) (σ .guard) (d .guard) in
-    let e : c .before .before .before .before .before .is-due .result ≡ due (plan s) (momentOf σ) (l .row) = c .before .before .before .before .before .is-due .ensures ∙ rw (readr, readg, d .clock, l .inv .1) in (
+    let s = c .before .before .before .before .before .before .before .before .before .before .before .before .before .before .before .before .before .before in
+    let m = letGo (plan s) (moment s) in
+    let readr = made-read (m .released) (l .row) (s .args .released .now) (l .inv .2) in
+    let readg = made-read (m .guard) (l .row) (s .args .guard .now) (l .inv .4) in
+    let e : c .before .before .before .before .before .is-due .result ≡ due (plan s) (moment s) (l .row) = c .before .before .before .before .before .is-due .ensures ∙ rw (readr, readg, l .inv .1) in (
       omega arith,
-      made-read (m .completed) (l .row) (σ .completed) (d .completed) ∙ rw add-one,
-      record {
-        clock = d .clock;
-        released = made-store (m .released) (l .row) (σ .released) (d .released) (omega arith) (c .before .before .before .before .either .ensures ∙ rw (e, readr));
-        completed = made-keep (m .completed) (l .row) (σ .completed) (d .completed) (omega arith) refl;
-        used = made-keep (m .used) (l .row) (σ .used) (d .used) (omega arith) refl;
-        guard = made-store (m .guard) (l .row) (σ .guard) (d .guard) (omega arith) (c .before .before .either2 .ensures ∙ rw (e, readg, d .clock));
-      },
-      made-store _ (l .row) (s .args .released .now) (l .inv .3) (omega arith) (c .before .byte-of .ensures ∙ rw e),
-      simp length-set (l .inv .4),
+      rw add-one,
+      made-store (m .released) (l .row) (s .args .released .now) (l .inv .2) (omega arith) (c .before .before .before .before .either .ensures ∙ rw (e, readr)),
+      simp length-set (l .inv .3),
+      made-store (m .guard) (l .row) (s .args .guard .now) (l .inv .4) (omega arith) (c .before .before .either2 .ensures ∙ rw (e, readg)),
+      simp length-set (l .inv .5),
+      made-store _ (l .row) (s .args .out .now) (l .inv .6) (omega arith) (c .before .byte-of .ensures ∙ rw e),
+      simp length-set (l .inv .7),
     )
 
--- src/release.rt:85:1
+-- src/release.rt:94:1
 same-length : tie.Need-same-length Inv-loop μ-loop
 same-length c = search needs
 
--- src/release.rt:85:1
+-- src/release.rt:94:1
+same-length-2 : tie.Need-same-length-2 Inv-loop μ-loop
+same-length-2 c = search needs
+
+-- src/release.rt:94:1
+same-length-3 : tie.Need-same-length-3 Inv-loop μ-loop
+same-length-3 c = search needs
+
+-- src/release.rt:94:1
 returns : tie.Need-returns Inv-loop μ-loop
-unfolding letGo momentOf
 returns c = let l = c .before .loop in
-    let e : l .row ≡ c .before .before .before .before .args .t1 .count = omega arith in
-    (made-all _ (l .inv .2) (l .inv .2 .clock) ∙ rw e, l .inv .3 ∙ rw e)
+    let e : l .row ≡ c .before .before .before .before .before .before .before .before .before .args .rows = omega arith in
+    (l .inv .2 ∙ rw e, l .inv .4 ∙ rw e, l .inv .6 ∙ rw e)
 
 pub let-go-spec : {M : Type 1} → statement M
 let-go-spec =
@@ -177,30 +180,32 @@ let-go-spec =
     (tie.spec
     Inv-loop
     μ-loop
-    element-copy-out-before
+    shared-slice-read-before
     loop-holds
     mul-count
-    element-copy-out-count
-    mul-guard
-    element-copy-out-guard
-    element-copy-out-is-due
+    slice-read-count
+    mul-own
+    slice-read-own
+    shared-slice-read-is-due
     is-due-requires
     add-either
     either-requires
-    mul-next
-    element-write-next
+    mul-released
+    slice-write-released
     mul-either
-    element-copy-out-either
+    shared-slice-read-either
     add-either-2
     either-requires-2
-    mul-next-2
-    element-write-next-2
+    mul-guard
+    slice-write-guard
     byte-of-requires
-    slice-write-released
+    slice-write-out
     mul-before
-    element-copy-out-before-2
+    shared-slice-read-before-2
     add-row
     loop-less
     loop-again
     same-length
+    same-length-2
+    same-length-3
     returns)

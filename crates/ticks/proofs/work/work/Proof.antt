@@ -1,12 +1,13 @@
-use Rattle.ticks.specs.TurnLaws.{Made, made-none, made-read, made-store, made-keep, made-all}
-use Rattle.ticks.specs.Steps.{ran, runsIn, endsIn}
-use Rattle.guards.proofs.Sizes.{sizes}
+use Rattle.ticks.specs.TurnLaws.{made-read, made-store}
+use Rattle.ticks.specs.Steps.{completedIn, usedIn, runsIn, endsIn}
 use Rattle.guards.specs.ArrivalLaws.{less-one}
 use Rattle.guards.specs.Calls.{isDone}
-use Rattle.guards.specs.Moment.{Moment, momentOf}
+use Rattle.facts.specs.Filled.{filled}
+use Rattle.facts.specs.FilledLaws.{filled-none}
 use native.Mathlib.Numerals.{add-one}
-use mathlib.Core.Path.{_≡_, refl, sym, _∙_, ap}
-use Prim.Native.Nat.{ℕ, _≤_, _<_, _+_, _-_}
+use lib.ListN.{length, length-set}
+use mathlib.Core.Path.{_≡_, refl, _∙_}
+use Prim.Native.Nat.{ℕ, _≤_, _-_}
 use native.Mathlib.Omega.{arith}
 use borrow.Author.Needs.{needs}
 use Rattle.ticks.proofs.work.work.Statement.{statement}
@@ -17,128 +18,130 @@ use Rattle.ticks.proofs.work.completed_after.Reads as completed-after-r
 use Rattle.ticks.proofs.work.used_after.Reads as used-after-reads
 
 abbrev Inv-loop : tie.InvT-loop
-Inv-loop rows processor running done next₀ row₀ next row =
-    (row ≤ rows) × Made row (ran (runsIn processor running) (endsIn processor done) (momentOf next₀)) next₀ next
+Inv-loop rows processor running done completed₀ used₀ row₀ completed used row =
+    (row ≤ rows)
+    × (completed ≡ filled (completedIn (runsIn processor running) (endsIn processor done) completed₀) row completed₀) × (length completed ≡ length completed₀)
+    × (used ≡ filled (usedIn (runsIn processor running) (endsIn processor done) used₀) row used₀) × (length used ≡ length used₀)
 
 abbrev μ-loop : tie.MeasureT-loop
-μ-loop rows processor running done next₀ row₀ next row = rows - row
+μ-loop rows processor running done completed₀ used₀ row₀ completed used row = rows - row
 
--- The rows as steps 1 to 3 leave them.
-abbrev moment : tie.Start Inv-loop μ-loop → Moment
-moment s = ran (runsIn (s .args .processor .now) (s .args .running .now)) (endsIn (s .args .processor .now) (s .args .done .now)) (momentOf (s .args .state))
+-- What a row has completed and used after the tick.
+abbrev ended : tie.Start Inv-loop μ-loop → ℕ → ℕ
+ended s = completedIn (runsIn (s .args .processor .now) (s .args .running .now)) (endsIn (s .args .processor .now) (s .args .done .now)) (s .args .completed .now)
 
--- src/work.rt:45:5
+abbrev spent : tie.Start Inv-loop μ-loop → ℕ → ℕ
+spent s = usedIn (runsIn (s .args .processor .now) (s .args .running .now)) (endsIn (s .args .processor .now) (s .args .done .now)) (s .args .used .now)
+
+-- src/work.rt:51:5
 loop-holds : tie.Need-loop-holds Inv-loop μ-loop
-loop-holds c = (omega arith, made-none _ _)
+loop-holds c = (omega arith, filled-none _ _, refl, filled-none _ _, refl)
 
--- src/work.rt:46:18
+-- src/work.rt:52:18
 mul-on : tie.Need-mul-on Inv-loop μ-loop
 mul-on c = search needs
 
--- src/work.rt:46:18
+-- src/work.rt:52:18
 shared-slice-read-on : tie.Need-shared-slice-read-on Inv-loop μ-loop
 shared-slice-read-on c = search needs
 
--- src/work.rt:47:20
+-- src/work.rt:53:20
 mul-runs : tie.Need-mul-runs Inv-loop μ-loop
-mul-runs c = omega (arith, c .before .before .before .before .before .before .pre .processor-least (c .before .before .loop .row) (omega arith), c .before .before .before .before .before .before .pre .processor-most (c .before .before .loop .row) (omega arith))
+mul-runs c = omega (arith, c .before .before .before .before .before .before .before .before .pre .processor-least (c .before .before .loop .row) (omega arith), c .before .before .before .before .before .before .before .before .pre .processor-most (c .before .before .loop .row) (omega arith))
 
--- src/work.rt:47:20
+-- src/work.rt:53:20
 shared-slice-read-runs : tie.Need-shared-slice-read-runs Inv-loop μ-loop
-shared-slice-read-runs c = omega (arith, c .before .before .before .before .before .before .before .pre .processor-least (c .before .before .before .loop .row) (omega arith), c .before .before .before .before .before .before .before .pre .processor-most (c .before .before .before .loop .row) (omega arith))
+shared-slice-read-runs c = omega (arith, c .before .before .before .before .before .before .before .before .before .pre .processor-least (c .before .before .before .loop .row) (omega arith), c .before .before .before .before .before .before .before .before .before .pre .processor-most (c .before .before .before .loop .row) (omega arith))
 
--- src/work.rt:47:35
+-- src/work.rt:53:35
 add-runs : tie.Need-add-runs Inv-loop μ-loop
 add-runs c = search needs
 
--- src/work.rt:48:25
+-- src/work.rt:54:25
 sub-ends : tie.Need-sub-ends Inv-loop μ-loop
-sub-ends c = omega (arith, c .before .before .before .before .before .before .before .pre .processor-least (c .before .before .before .loop .row) (omega arith), c .before .before .before .before .before .before .before .pre .processor-most (c .before .before .before .loop .row) (omega arith))
+sub-ends c = omega (arith, c .before .before .before .before .before .before .before .before .before .pre .processor-least (c .before .before .before .loop .row) (omega arith), c .before .before .before .before .before .before .before .before .before .pre .processor-most (c .before .before .before .loop .row) (omega arith))
 
--- src/work.rt:48:20
+-- src/work.rt:54:20
 shared-slice-read-ends : tie.Need-shared-slice-read-ends Inv-loop μ-loop
-shared-slice-read-ends c = omega (arith, c .before .before .before .before .before .before .before .before .pre .processor-least (c .before .before .before .before .loop .row) (omega arith), c .before .before .before .before .before .before .before .before .pre .processor-most (c .before .before .before .before .loop .row) (omega arith))
+shared-slice-read-ends c = omega (arith, c .before .before .before .before .before .before .before .before .before .before .pre .processor-least (c .before .before .before .before .loop .row) (omega arith), c .before .before .before .before .before .before .before .before .before .before .pre .processor-most (c .before .before .before .before .loop .row) (omega arith))
 
--- src/work.rt:49:59
+-- src/work.rt:55:54
 mul-completed-after : tie.Need-mul-completed-after Inv-loop μ-loop
 mul-completed-after c = search needs
 
--- src/work.rt:49:59
-element-copy-out-completed-after : tie.Need-element-copy-out-completed-after Inv-loop μ-loop
-element-copy-out-completed-after c = search needs
+-- src/work.rt:55:54
+slice-read-completed-after : tie.Need-slice-read-completed-after Inv-loop μ-loop
+slice-read-completed-after c = search needs
 
--- src/work.rt:49:31
+-- src/work.rt:55:26
 completed-after-requires : tie.Need-completed-after-requires Inv-loop μ-loop
 completed-after-requires c κs = let l = c .before .before .before .before .before .loop in
-    let s = c .before .before .before .before .before .before .before .before .before in
-    omega (arith, made-read _ (l .row) (s .args .state .completed) (l .inv .1 .completed), s .pre .completed-most (l .row) (omega arith))
+    let s = c .before .before .before .before .before .before .before .before .before .before .before in
+    omega (arith, made-read (ended s) (l .row) (s .args .completed .now) (l .inv .1), s .pre .completed-most (l .row) (omega arith))
 
--- src/work.rt:49:9
-mul-next : tie.Need-mul-next Inv-loop μ-loop
-mul-next c = search needs
+-- src/work.rt:55:9
+mul-completed : tie.Need-mul-completed Inv-loop μ-loop
+mul-completed c = search needs
 
--- src/work.rt:49:9
-element-write-next : tie.Need-element-write-next Inv-loop μ-loop
-element-write-next c = search needs
+-- src/work.rt:55:9
+slice-write-completed : tie.Need-slice-write-completed Inv-loop μ-loop
+slice-write-completed c = search needs
 
--- src/work.rt:50:49
+-- src/work.rt:56:44
 mul-used-after : tie.Need-mul-used-after Inv-loop μ-loop
 mul-used-after c = search needs
 
--- src/work.rt:50:49
-element-copy-out-used-after : tie.Need-element-copy-out-used-after Inv-loop μ-loop
-element-copy-out-used-after c = search needs
+-- src/work.rt:56:44
+slice-read-used-after : tie.Need-slice-read-used-after Inv-loop μ-loop
+slice-read-used-after c = search needs
 
--- src/work.rt:50:26
+-- src/work.rt:56:21
 used-after-requires : tie.Need-used-after-requires Inv-loop μ-loop
 used-after-requires c κs = let l = c .before .before .before .before .before .before .before .loop in
-    let s = c .before .before .before .before .before .before .before .before .before .before .before in
-    omega (arith, made-read _ (l .row) (s .args .state .used) (l .inv .1 .used), s .pre .used-most (l .row) (omega arith))
+    let s = c .before .before .before .before .before .before .before .before .before .before .before .before .before in
+    omega (arith, made-read (spent s) (l .row) (s .args .used .now) (l .inv .3), s .pre .used-most (l .row) (omega arith))
 
--- src/work.rt:50:9
-mul-next-2 : tie.Need-mul-next-2 Inv-loop μ-loop
-mul-next-2 c = search needs
+-- src/work.rt:56:9
+mul-used : tie.Need-mul-used Inv-loop μ-loop
+mul-used c = search needs
 
--- src/work.rt:50:9
-element-write-next-2 : tie.Need-element-write-next-2 Inv-loop μ-loop
-element-write-next-2 c = search needs
+-- src/work.rt:56:9
+slice-write-used : tie.Need-slice-write-used Inv-loop μ-loop
+slice-write-used c = search needs
 
--- src/work.rt:51:9
+-- src/work.rt:57:9
 add-row : tie.Need-add-row Inv-loop μ-loop
 add-row c = search needs
 
--- src/work.rt:45:5
+-- src/work.rt:51:5
 loop-less : tie.Need-loop-less Inv-loop μ-loop
 loop-less c = search needs
 
--- src/work.rt:45:5
+-- src/work.rt:51:5
 loop-again : tie.Need-loop-again Inv-loop μ-loop
-unfolding ran momentOf isDone
+unfolding isDone
 loop-again c = let l = c .before .before .before .before .before .before .before .before .loop in
-    let s = c .before .before .before .before .before .before .before .before .before .before .before .before in
-    let d = l .inv .1 in
-    let z = sizes (s .args .state) _ (s .good .1 .1 .1 .1 .0) in
-    let m = moment s in (
+    let s = c .before .before .before .before .before .before .before .before .before .before .before .before .before .before in (
       omega arith,
-      record {
-        clock = d .clock;
-        released = made-keep (m .released) (l .row) (s .args .state .released) (d .released) (omega arith) refl;
-        completed = made-store (m .completed) (l .row) (s .args .state .completed) (d .completed) (omega arith) (c .before .before .completed-after .ensures ∙ rw (made-read (m .completed) (l .row) (s .args .state .completed) (d .completed), add-one (l .row), less-one));
-        used = made-store (m .used) (l .row) (s .args .state .used) (d .used) (omega arith) (c .used-after .ensures ∙ rw (made-read (m .used) (l .row) (s .args .state .used) (d .used), add-one (l .row), less-one));
-        guard = made-keep (m .guard) (l .row) (s .args .state .guard) (d .guard) (omega arith) refl;
-      },
+      made-store (ended s) (l .row) (s .args .completed .now) (l .inv .1) (omega arith) (c .before .before .completed-after .ensures ∙ rw (made-read (ended s) (l .row) (s .args .completed .now) (l .inv .1), add-one (l .row), less-one)),
+      simp length-set (l .inv .2),
+      made-store (spent s) (l .row) (s .args .used .now) (l .inv .3) (omega arith) (c .used-after .ensures ∙ rw (made-read (spent s) (l .row) (s .args .used .now) (l .inv .3), add-one (l .row), less-one)),
+      simp length-set (l .inv .4),
     )
 
--- src/work.rt:53:18
-add-next : tie.Need-add-next Inv-loop μ-loop
-add-next c = omega (arith, c .before .loop .inv .1 .clock)
+-- src/work.rt:39:1
+same-length : tie.Need-same-length Inv-loop μ-loop
+same-length c = search needs
+
+-- src/work.rt:39:1
+same-length-2 : tie.Need-same-length-2 Inv-loop μ-loop
+same-length-2 c = search needs
 
 -- src/work.rt:39:1
 returns : tie.Need-returns Inv-loop μ-loop
-unfolding ran momentOf
 returns c = let l = c .before .loop in
-    let e : l .row ≡ c .before .before .before .before .before .args .rows = omega arith in
-    rw (← e) (made-all _ (l .inv .1) (ap (λ (t : ℕ). t + 1) (l .inv .1 .clock)))
+    let e : l .row ≡ c .before .before .before .before .before .before .before .args .rows = omega arith in
+    (l .inv .1 ∙ rw e, l .inv .3 ∙ rw e)
 
 pub work-spec : {M : Type 1} → statement M
 work-spec =
@@ -155,17 +158,18 @@ work-spec =
     sub-ends
     shared-slice-read-ends
     mul-completed-after
-    element-copy-out-completed-after
+    slice-read-completed-after
     completed-after-requires
-    mul-next
-    element-write-next
+    mul-completed
+    slice-write-completed
     mul-used-after
-    element-copy-out-used-after
+    slice-read-used-after
     used-after-requires
-    mul-next-2
-    element-write-next-2
+    mul-used
+    slice-write-used
     add-row
     loop-less
     loop-again
-    add-next
+    same-length
+    same-length-2
     returns)
