@@ -136,11 +136,11 @@ static void start(const char *name)
         rows = answer.value;
         answer = plan_report(file, length, report, RACK_REPORT_BYTES);
     }
+    free(file);
     if (answer.number != 0) {
         printf("refused=%" PRIu64 "\nat=%" PRIu64 "\n", answer.number, answer.value);
         exit(1);
     }
-    free(file);
     report[answer.value] = 0;
     processors = word(table, 0);
     tasks = word(table, 1);

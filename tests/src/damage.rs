@@ -4,46 +4,76 @@ use crate::random::Random;
 use rack_model::file::{self, MOST_BYTES};
 use rack_model::{Row, Table, Task};
 
-/// Changes a file in one of many ways.
-pub fn damage(random: &mut Random, text: &mut Vec<u8>) {
+/// Changes a file in one of many ways, and says which.
+pub fn damage(random: &mut Random, text: &mut Vec<u8>) -> &'static str {
     if text.is_empty() {
-        return;
+        return "empty";
     }
     match random.below(20) {
-        0 | 1 => change_bytes(random, text, 1),
+        0 | 1 => {
+            change_bytes(random, text, 1);
+            "a byte changed"
+        }
         2 => {
             let count = random.between(2, 6);
-            change_bytes(random, text, count)
+            change_bytes(random, text, count);
+            "bytes changed"
         }
         3 => {
             let at = random.index(text.len() + 1);
             let byte = any_byte(random);
             text.insert(at, byte);
+            "a byte more"
         }
         4 => {
             let at = random.index(text.len());
             text.remove(at);
+            "a byte less"
         }
         5 => {
             let length = random.index(text.len() + 1);
             text.truncate(length);
+            "cut at a byte"
         }
-        6 => extend(random, text),
-        7 => carriage_returns(random, text),
-        8..=12 => change_value(random, text),
-        13 | 14 => change_key(random, text),
-        15 => move_lines(random, text),
-        16 => about_the_most_bytes(random, text),
+        6 => {
+            extend(random, text);
+            "bytes behind"
+        }
+        7 => {
+            carriage_returns(random, text);
+            "CR LF"
+        }
+        8..=12 => {
+            change_value(random, text);
+            "another value"
+        }
+        13 | 14 => {
+            change_key(random, text);
+            "another key"
+        }
+        15 => {
+            move_lines(random, text);
+            "lines moved"
+        }
+        16 => {
+            about_the_most_bytes(random, text);
+            "about 8192 bytes"
+        }
         17 => {
             // A value out of range, and its LF missing at the end of the file.
             change_value(random, text);
             cut_at_a_line(random, text);
             text.pop();
+            "another value, last LF missing"
         }
-        18 => cut_at_a_line(random, text),
+        18 => {
+            cut_at_a_line(random, text);
+            "cut at a line"
+        }
         _ => {
             let length = random.spread(0, 9000) as usize;
             *text = (0..length).map(|_| any_byte(random)).collect();
+            "any bytes"
         }
     }
 }

@@ -5,7 +5,7 @@ use rack_model::bounds::LONGEST_BUSY;
 use rack_model::table::*;
 use rack_model::{Row, Table, Task};
 
-#[derive(Clone, Copy, Debug, PartialEq, Eq)]
+#[derive(Clone, Copy, Debug, PartialEq, Eq, PartialOrd, Ord)]
 pub enum Kind {
     /// A few rows with short periods, often full.
     Small,
@@ -13,6 +13,8 @@ pub enum Kind {
     Middle,
     /// Up to 128 rows on up to 16 processors.
     Wide,
+    /// 32 tasks on 16 processors, often of 128 rows.
+    Full,
     /// Values from all of their ranges.
     Edges,
     /// Busy lengths about the limit.
@@ -42,15 +44,27 @@ fn any_plan(random: &mut Random, kind: Kind) -> Table {
     match kind {
         Kind::Small => {
             let longest = random.pick(&[4, 12, 24]);
-            loaded(random, 3, 4, 3, 12, (1, longest))
+            loaded(random, (1, 3), (1, 4), 3, 12, (1, longest))
         }
         Kind::Middle => {
             let longest = random.pick(&[40, 400, 5000]);
-            loaded(random, 6, 12, 6, 40, (2, longest))
+            loaded(random, (1, 6), (1, 12), 6, 40, (2, longest))
         }
         Kind::Wide => {
             let longest = random.pick(&[2000, 20_000, 1_000_000]);
-            loaded(random, MOST_PROCESSORS, MOST_TASKS, MOST_STEPS, MOST_ROWS as u64, (100, longest))
+            loaded(
+                random,
+                (1, MOST_PROCESSORS),
+                (1, MOST_TASKS),
+                MOST_STEPS,
+                MOST_ROWS as u64,
+                (100, longest),
+            )
+        }
+        Kind::Full => {
+            let longest = random.pick(&[2000, 20_000, 1_000_000]);
+            let (processors, tasks, rows) = (MOST_PROCESSORS, MOST_TASKS, MOST_ROWS as u64);
+            loaded(random, (processors, processors), (tasks, tasks), rows / tasks, rows, (100, longest))
         }
         Kind::Edges => edges(random),
         Kind::Long => long(random),
@@ -58,8 +72,8 @@ fn any_plan(random: &mut Random, kind: Kind) -> Table {
 }
 
 /// Chains of random steps, with at most so many rows in all; rows are still to be filled.
-fn chains(random: &mut Random, tasks: u64, steps: u64, rows: u64) -> Vec<u64> {
-    let count = random.between(1, tasks);
+fn chains(random: &mut Random, tasks: (u64, u64), steps: u64, rows: u64) -> Vec<u64> {
+    let count = random.between(tasks.0, tasks.1);
     let mut left = rows;
     let mut found = Vec::new();
     for _ in 0..count {
@@ -94,13 +108,13 @@ fn deadline(random: &mut Random, period: u64, steps: u64) -> u64 {
 /// Processors loaded up to a share near 1, rows spread over them.
 fn loaded(
     random: &mut Random,
-    processors: u64,
-    tasks: u64,
+    processors: (u64, u64),
+    tasks: (u64, u64),
     steps: u64,
     rows: u64,
     periods: (u64, u64),
 ) -> Table {
-    let processors = random.between(1, processors);
+    let processors = random.between(processors.0, processors.1);
     let urgency = random.below(4);
     let harmonic = random.one_in(3);
     let mut table = Table { processors, tasks: Vec::new(), rows: Vec::new() };
@@ -155,7 +169,7 @@ fn edges(random: &mut Random) -> Table {
     let mut table = Table { processors, tasks: Vec::new(), rows: Vec::new() };
     let rows = random.pick(&[2, 8, 128]);
     let lean = !random.one_in(4);
-    for (task, steps) in chains(random, MOST_TASKS, MOST_STEPS, rows).into_iter().enumerate() {
+    for (task, steps) in chains(random, (1, MOST_TASKS), MOST_STEPS, rows).into_iter().enumerate() {
         let period = match random.below(3) {
             0 => MOST_PERIOD,
             1 => random.between(1, MOST_PERIOD),

@@ -1,8 +1,11 @@
-// Plan files at the edges of the rules, read and written back. Each line says the case's name and then either `read`, the
-// processors, tasks and rows, whether the file is written back to the same bytes, and whether all entries past the table
-// stayed; or the refusal's number and place, and whether all entries stayed.
+// Plan files at the edges of the rules, read and written back, and tables, written and read back. Each line says the case's
+// name and then either `read`, the processors, tasks and rows, whether the file is written back to the same bytes, and whether
+// all entries past the table stayed; or `written`, the bytes, whether they are read back to the same table and that is written
+// to the same bytes, and whether all bytes past them stayed; or the refusal's number and place, and whether all stayed.
 mod build;
 mod show;
+mod tables;
+mod written;
 
 use build::full_tasks;
 use build::small_plan;
@@ -88,6 +91,14 @@ fn values() {
 
 // Ranges.
 fn ranges() {
+    show(
+        b"all at least",
+        b"plan=1\nprocessors=1\ntasks=1\ntask=1\nperiod=1\ndeadline=0\nsteps=1\nprocessor=1\npriority=1\ntime=1\n",
+    );
+    show(
+        b"all at most in one row",
+        b"plan=1\nprocessors=16\ntasks=1\ntask=1\nperiod=1000000\ndeadline=160000000\nsteps=1\nprocessor=16\npriority=255\ntime=1000000\n",
+    );
     try_lines(b"plan 2", 0, b"plan=2\n");
     try_lines(b"processors 17", 1, b"processors=17\n");
     try_lines(b"tasks 33", 2, b"tasks=33\n");
@@ -139,4 +150,9 @@ fn main() {
     ranges();
     sizes();
     lists();
+    tables::plans();
+    tables::spreads();
+    tables::rooms();
+    tables::no_plans();
+    tables::short_lists();
 }

@@ -18,13 +18,13 @@ ghost use Prim.Native.Nat.{_≤_};
 const UNTOUCHED: u64 = 7;
 
 // Prints a blank and a number.
-fn say(number: u64) {
+pub(crate) fn say(number: u64) {
     io::write_all(STDOUT_FILENO, b" ");
     io::print_decimal(STDOUT_FILENO, number);
 }
 
 // Prints a blank, a word and whether it holds.
-fn say_whether(word: &[u8], holds: bool) {
+pub(crate) fn say_whether(word: &[u8], holds: bool) {
     io::write_all(STDOUT_FILENO, b" ");
     io::write_all(STDOUT_FILENO, word);
     if holds {
@@ -76,7 +76,7 @@ fn all_stayed(
 }
 
 // Whether the table is written back to the same bytes.
-fn writes_back(
+pub(crate) fn writes_back(
     file: &[u8],
     counts: Counts,
     period: &[u64],
@@ -107,7 +107,7 @@ fn writes_back(
 }
 
 // How many rows the table has; 0 if it is no plan.
-fn rows_of(
+pub(crate) fn rows_of(
     counts: Counts,
     period: &[u64],
     deadline: &[u64],

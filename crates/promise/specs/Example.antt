@@ -136,7 +136,7 @@ paper-rows r l =
     (all-at 4 (λ r. rowTest (equations paperPlan r) 9 (paperNumbers .busy r) (paperNumbers .instances r) (paperNumbers .bound r)) refl r l)
 
 -- The bounds of document 01's plan are given, and it is accepted.
-paper-bounds : Bounding paperPlan lent (filledIn paperPlan paperNumbers lent) (Accepted 1)
+pub paper-bounds : Bounding paperPlan lent (filledIn paperPlan paperNumbers lent) (Accepted 1)
 unfolding paperPlan paperNumbers lent needed longEnough accepted slackOf chainBound inForce filledIn rows firstRow all sum tab
 paper-bounds = (
   plans .0,

@@ -22,7 +22,7 @@ use Rattle.promise.specs.Promise.{EndsWithin, Promised}
 use Rattle.promise.specs.EndsWithin.{ends-within}
 
 -- An accepted plan's chain bounds are within the deadlines in force.
-within-deadline : (T : Table) (N : Numbers) → accepted T N ≡ true → (i : ℕ) → i < T .tasks → chainBound T N i ≤ inForce T i
+pub within-deadline : (T : Table) (N : Numbers) → accepted T N ≡ true → (i : ℕ) → i < T .tasks → chainBound T N i ≤ inForce T i
 unfolding accepted slackOf
 within-deadline T N e i l =
     leb-true _ _ (sym (less-sign (inForce T i) (chainBound T N i)) ∙ all-at (T .tasks) (λ i. leZ (pos 0) (slackOf T N i)) e i l)
@@ -72,7 +72,7 @@ promise P Q plan h before after answer b = record {
     ends = ends-within Q plan (λ r l. bounds-safe (right-of Q (checked Q plan)) r l (mine .1 .row r l))
 
 -- A plan is no harder than itself, so its own chain bounds hold.
-no-harder-self : (P : Table) → NoHarder P P
+pub no-harder-self : (P : Table) → NoHarder P P
 no-harder-self P = record {
   tasks = refl;
   steps = λ i l. refl;

@@ -1,5 +1,10 @@
-// Runs document 01's examples P1 to P8 and prints what came out: each plan's name, and its report or its refusal. P7 has a
-// busy length of 10,000,000 and is run here and not proved.
+// Runs document 01's examples and prints what came out, to be read beside it: of P1 to P8 each plan's report or refusal, of
+// P9 to P12 and the clock's end every call on the guards. P7 has a busy length of 10,000,000 and is run here and not proved.
+// The examples of plan files are run by `filecases`.
+
+mod paper;
+mod runs;
+mod say;
 
 use libc::STDOUT_FILENO;
 use report::Reporting;
@@ -40,6 +45,10 @@ fn main() {
         b"P8\n",
         b"plan=1\nprocessors=1\ntasks=2\ntask=1\nperiod=1000000\ndeadline=0\nsteps=1\nprocessor=1\npriority=2\ntime=500000\ntask=2\nperiod=999998\ndeadline=0\nsteps=1\nprocessor=1\npriority=1\ntime=499999\n",
     );
+    runs::full_runs();
+    runs::too_soon();
+    runs::time_used_up();
+    runs::clock_end();
 }
 
 // A plan's name, and its report or its refusal.

@@ -5,7 +5,8 @@
 //!
 //! Each script takes a random plan and starts afresh or from some state that fits. Most calls are
 //! in order; the others have wrong numbers, bytes, lengths, tables or states, one at a time or
-//! several. Every answer and every byte of every list is compared, with the bytes behind it.
+//! several. Every answer and every byte of every list is compared, with the bytes before and behind it; a refusal leaves
+//! every byte, and is the first in order of those that have their reason.
 
 use rack_model::guards::{self, RowState, State, LAST_CLOCK};
 use rack_model::layout::{self, Answer, STATE_BYTES, TABLE_BYTES};
@@ -43,6 +44,20 @@ struct Handed {
 #[derive(Default)]
 struct Seen {
     outcomes: BTreeMap<(Call, u64), u64>,
+    /// Scripts by the kind of their plan.
+    kinds: BTreeMap<Kind, u64>,
+    /// What was made wrong.
+    wrongs: BTreeMap<&'static str, u64>,
+    /// Refusals for which a later one had its reason too: the call, the number given, the later one.
+    orders: BTreeMap<(Call, u64, u64), u64>,
+    /// Scripts whose plan has as many rows, tasks and processors as there may be.
+    most_rows: u64,
+    most_tasks: u64,
+    most_processors: u64,
+    /// Calls taken on a state that no run reaches, ticks taken in the last 100 clocks, and those to the clock's end.
+    unreached: u64,
+    late: u64,
+    last: u64,
     /// Calls made, and how many rows step 5 released in them.
     calls: u64,
     let_go: u64,
@@ -70,17 +85,24 @@ fn main() {
         seen.outcomes.iter().filter(|((c, _), _)| *c == call).map(|((_, n), count)| (*n, *count)).collect()
     };
     println!(
-        "{PROGRAM}: seed {}, {} calls, fresh {:?}, arrive {:?}, tick {:?}, released by step 5 {}, \
-         lowered by step 4 {}, broke in {}, {:.1} s",
+        "{PROGRAM}: seed {}, {} calls, {:.1} s",
         arguments.seed,
         seen.calls,
-        count(Call::Fresh),
-        count(Call::Arrive),
-        count(Call::Tick),
-        seen.let_go,
-        seen.lowered,
-        seen.broke_in,
         start.elapsed().as_secs_f64()
+    );
+    println!("  fresh by number {:?}", count(Call::Fresh));
+    println!("  arrive by number {:?}", count(Call::Arrive));
+    println!("  tick by number {:?}", count(Call::Tick));
+    println!("  refused where a later number had its reason too {:?}", seen.orders);
+    println!("  made wrong {:?}", seen.wrongs);
+    println!(
+        "  released by step 5 {}, lowered by step 4 {}, broke in {}, taken on states that no run reaches {}, \
+         ticks in the last 100 clocks {}, to the clock's end {}",
+        seen.let_go, seen.lowered, seen.broke_in, seen.unreached, seen.late, seen.last
+    );
+    println!(
+        "  scripts by plan {:?}, with 128 rows {}, 32 tasks {}, 16 processors {}",
+        seen.kinds, seen.most_rows, seen.most_tasks, seen.most_processors
     );
     let due = [
         (Call::Fresh, &[0, 5, 14][..]),
@@ -95,10 +117,44 @@ fn main() {
             }
         }
     }
+    let orders = [
+        (Call::Fresh, &[(5, 14)][..]),
+        (Call::Arrive, &[(5, 14), (14, 8)]),
+        (
+            Call::Tick,
+            &[
+                (5, 14),
+                (14, 10),
+                (14, 7),
+                (14, 13),
+                (10, 7),
+                (10, 13),
+                (7, 13),
+                (7, 11),
+                (7, 12),
+                (13, 11),
+                (13, 12),
+                (11, 12),
+            ],
+        ),
+    ];
+    for (call, pairs) in orders {
+        for (given, later) in pairs {
+            if !seen.orders.contains_key(&(call, *given, *later)) {
+                missing.push(format!("{call:?} {given} where {later} had its reason too"));
+            }
+        }
+    }
     for (name, count) in [
         ("a release", seen.let_go),
         ("a guard lowered", seen.lowered),
         ("a row that breaks in", seen.broke_in),
+        ("a state that no run reaches", seen.unreached),
+        ("a tick in the last 100 clocks", seen.late),
+        ("a tick to the clock's end", seen.last),
+        ("128 rows", seen.most_rows),
+        ("32 tasks", seen.most_tasks),
+        ("16 processors", seen.most_processors),
     ] {
         if count == 0 {
             missing.push(name.to_string());
@@ -111,11 +167,16 @@ fn main() {
 }
 
 fn script(random: &mut Random, seen: &mut Seen) -> Result<(), String> {
-    let kind = random.pick(&[Kind::Small, Kind::Small, Kind::Small, Kind::Middle, Kind::Wide, Kind::Edges]);
+    let kinds = [Kind::Small, Kind::Small, Kind::Small, Kind::Middle, Kind::Wide, Kind::Full, Kind::Edges];
+    let kind = random.pick(&kinds);
+    *seen.kinds.entry(kind).or_default() += 1;
     let mut table = plan(random, kind, true);
     if random.one_in(2) {
         shorten(random, &mut table);
     }
+    seen.most_rows += u64::from(table.rows.len() == 128);
+    seen.most_tasks += u64::from(table.tasks.len() == 32);
+    seen.most_processors += u64::from(table.processors == 16);
     let mut list = Lent::filled(random, TABLE_BYTES);
     scribble(random, &mut list);
     layout::put_table(&table, list.list());
@@ -136,12 +197,12 @@ fn script(random: &mut Random, seen: &mut Seen) -> Result<(), String> {
                 continue;
             }
             1..=8 => {
-                spoil(random, &table, &mut handed);
+                *seen.wrongs.entry(spoil(random, &table, &mut handed)).or_default() += 1;
                 false
             }
             9 | 10 => {
                 for _ in 0..random.between(2, 3) {
-                    spoil(random, &table, &mut handed);
+                    *seen.wrongs.entry(spoil(random, &table, &mut handed)).or_default() += 1;
                 }
                 false
             }
@@ -264,11 +325,17 @@ fn in_order(
     }
 }
 
-/// Makes something wrong with a call, or at least strange.
-fn spoil(random: &mut Random, table: &Table, handed: &mut Handed) {
-    match random.below(12) {
-        0 => handed.task = random.pick(&[0, table.tasks.len() as u64 + 1, u64::MAX, 1 << 32, (1 << 32) + 1]),
-        1 => handed.task = random.word(),
+/// Makes something wrong with a call, or at least strange, and says what.
+fn spoil(random: &mut Random, table: &Table, handed: &mut Handed) -> &'static str {
+    let what = match random.below(12) {
+        0 => {
+            handed.task = random.pick(&[0, table.tasks.len() as u64 + 1, u64::MAX, 1 << 32, (1 << 32) + 1]);
+            "task past the plan's"
+        }
+        1 => {
+            handed.task = random.word();
+            "any task"
+        }
         2..=4 => {
             // A done byte: the other one, or none at all.
             let length = handed.done.view().len();
@@ -277,20 +344,24 @@ fn spoil(random: &mut Random, table: &Table, handed: &mut Handed) {
                 let byte = &mut handed.done.list()[at];
                 *byte = if random.one_in(3) { random.next() as u8 } else { 1 ^ *byte };
             }
+            "done byte"
         }
         5 => {
             let length = random.pick(&[0, table.processors - 1, table.processors + 1, 16]);
             handed.done = Lent::of(random, &vec![0; length as usize]);
+            "done length"
         }
         6 => {
             let length = random.index(table.rows.len());
             handed.released = Lent::filled(random, length);
+            "release list short"
         }
         7 if handed.table.view().len() == TABLE_BYTES => {
             let at = table_word(random, table);
             let old = layout::word(handed.table.view(), at);
             let new = changed(random, old);
             layout::put_word(handed.table.list(), at, new);
+            "table word"
         }
         8 | 9 if handed.state.view().len() == STATE_BYTES => {
             let at = if random.one_in(8) { 0 } else { random.index(1 + 4 * table.rows.len()) };
@@ -298,13 +369,21 @@ fn spoil(random: &mut Random, table: &Table, handed: &mut Handed) {
             let clock = layout::word(handed.state.view(), 0);
             let new = if random.one_in(2) { changed(random, old) } else { changed(random, clock) };
             layout::put_word(handed.state.list(), at, new);
+            "state word"
         }
-        10 => handed.table = relength(random, &handed.table),
-        _ => handed.state = relength(random, &handed.state),
-    }
+        10 => {
+            handed.table = relength(random, &handed.table);
+            "table length"
+        }
+        _ => {
+            handed.state = relength(random, &handed.state);
+            "state length"
+        }
+    };
     if handed.call == Call::Tick && random.one_in(8) {
         handed.call = Call::Fresh;
     }
+    what
 }
 
 /// A word of the table that the plan uses, or now and then one that it doesn't.
@@ -378,19 +457,88 @@ fn compare(handed: &Handed, table: &Table, seen: &mut Seen) -> Result<Lent, Stri
     if let Some(what) = fault {
         return Err(describe(handed, table, model_says, archive_says, &what));
     }
+    let reasons = reasons(handed);
+    if model_says.number != reasons.first().copied().unwrap_or(0) {
+        let what = format!("the numbers that have their reason are {reasons:?}");
+        return Err(describe(handed, table, model_says, archive_says, &what));
+    }
+    for later in reasons.iter().skip(1) {
+        *seen.orders.entry((handed.call, reasons[0], *later)).or_default() += 1;
+    }
     if model_says.number == 0 {
         count(handed, &model.0, &model.1, seen);
     }
     Ok(model.0)
 }
 
+/// Every number that has its reason, in the order in which they are tried. Where there is no plan, no state or no done byte
+/// for each processor, what would need them has no reason.
+fn reasons(handed: &Handed) -> Vec<u64> {
+    let mut found = Vec::new();
+    let mut due = |number: u64, holds: bool| {
+        if holds {
+            found.push(number);
+        }
+    };
+    let (list, task) = (handed.state.view(), handed.task);
+    let Ok(plan) = layout::table_of(handed.table.view()) else {
+        due(5, true);
+        due(14, list.len() != STATE_BYTES);
+        return found;
+    };
+    let state = layout::state_of(&plan, list).ok();
+    match handed.call {
+        Call::Fresh => due(14, list.len() != STATE_BYTES),
+        Call::Arrive => {
+            let has = 1 <= task && task <= plan.tasks.len() as u64;
+            let first = plan.rows.iter().position(|row| row.first && row.task as u64 + 1 == task);
+            due(14, state.is_none());
+            due(8, !has);
+            due(9, matches!((&state, first), (Some(s), Some(r)) if s.clock < s.rows[r].guard));
+        }
+        Call::Tick => {
+            let done = handed.done.view();
+            let bytes = done.len() as u64 == plan.processors;
+            let chosen = state.as_ref().map(|s| guards::running(&plan, s));
+            let wrong = |on: usize, r: Option<usize>| done[on] > 1 || (done[on] == 1 && r.is_none());
+            let up = |on: usize, r: Option<usize>| match (&state, r) {
+                (Some(s), Some(r)) => done[on] == 0 && s.rows[r].used + 1 == plan.rows[r].time,
+                _ => false,
+            };
+            let some = |test: &dyn Fn(usize, Option<usize>) -> bool| match &chosen {
+                Some(rows) => bytes && rows.iter().enumerate().any(|(on, r)| test(on, *r)),
+                None => false,
+            };
+            due(14, state.is_none());
+            due(10, !bytes);
+            due(7, handed.released.view().len() < plan.rows.len());
+            due(13, list.len() == STATE_BYTES && layout::word(list, 0) == LAST_CLOCK);
+            due(11, some(&wrong));
+            due(12, some(&up));
+        }
+    }
+    found
+}
+
+/// Whether certainly no run reaches the state: a first row has released more than one instance a period.
+fn unreached(plan: &Table, state: &State) -> bool {
+    let mut rows = plan.rows.iter().zip(&state.rows).enumerate();
+    rows.any(|(r, (row, kept))| row.first && kept.released > state.clock / plan.period(r) + 1)
+}
+
 /// Counts what an accepted call did, by the plan that was handed over.
 fn count(handed: &Handed, after: &Lent, released: &Lent, seen: &mut Seen) {
-    if handed.call != Call::Tick {
+    if handed.call == Call::Fresh {
         return;
     }
     let plan = layout::table_of(handed.table.view()).unwrap();
     let before = layout::state_of(&plan, handed.state.view()).unwrap();
+    seen.unreached += u64::from(unreached(&plan, &before));
+    if handed.call != Call::Tick {
+        return;
+    }
+    seen.late += u64::from(before.clock >= LAST_CLOCK - 100);
+    seen.last += u64::from(before.clock == LAST_CLOCK - 1);
     let after = layout::state_of(&plan, after.view()).expect("an accepted call keeps the state fitting");
     let rows = plan.rows.len();
     seen.let_go += released.view()[..rows].iter().map(|byte| u64::from(*byte)).sum::<u64>();

@@ -3,7 +3,8 @@
 //!     compare-report [cases] [seed] [one case alone]
 //!     compare-report --files PLAN...
 //!
-//! Every answer and every byte of every lent list is compared, with the bytes behind the list.
+//! Every answer and every byte of every lent list is compared, with the bytes before and behind the list; a refusal leaves
+//! every byte, and no call writes to the file.
 
 use rack_model::bounds::{bounds, bounds_tabulated, LONGEST_BUSY};
 use rack_model::layout::{self, put_report, report_of, Answer, TABLE_BYTES};
@@ -25,6 +26,15 @@ const ENOUGH: usize = 9604;
 struct Seen {
     tables: BTreeMap<u64, u64>,
     reports: BTreeMap<u64, u64>,
+    /// Plans by their kind, and what was done to their files.
+    kinds: BTreeMap<Kind, u64>,
+    damages: BTreeMap<&'static str, u64>,
+    /// Plans with as many rows, tasks and processors as there may be.
+    most_rows: u64,
+    most_tasks: u64,
+    most_processors: u64,
+    /// Refusals for which a later one had its reason too: the call, the number given, the later one.
+    orders: BTreeMap<(&'static str, u64, u64), u64>,
     accepted: u64,
     turned_down: u64,
     tied: u64,
@@ -48,31 +58,41 @@ fn main() {
     };
     for case in cases {
         let mut random = Random::new(arguments.seed, case);
-        let text = file_of(&mut random, case);
+        let text = file_of(&mut random, case, &mut seen);
         if let Err(what) = compare(&mut random, &text, &mut seen) {
             let shown = String::from_utf8_lossy(&text);
             apart(PROGRAM, arguments.seed, case, &format!("{what}\nfile of {} bytes:\n{shown}", text.len()));
         }
     }
     let missing = missing(&seen);
+    print(&arguments, &seen, start.elapsed().as_secs_f64());
+    if arguments.only.is_none() && arguments.count >= 20_000 && !missing.is_empty() {
+        println!("{PROGRAM}: never seen: {}", missing.join(", "));
+        std::process::exit(1);
+    }
+}
+
+/// How often everything came up.
+fn print(arguments: &Arguments, seen: &Seen, seconds: f64) {
+    println!("{PROGRAM}: seed {}, {seconds:.1} s", arguments.seed);
+    println!("  plans {:?}", seen.kinds);
+    println!("  files damaged {:?}", seen.damages);
+    println!("  rack_table by number {:?}", seen.tables);
+    println!("  plan_report by number {:?}", seen.reports);
+    println!("  refused where a later number had its reason too {:?}", seen.orders);
     println!(
-        "{PROGRAM}: seed {}, rack_table {:?}, plan_report {:?}, accepted {}, turned down {}, \
-         tied {}, several instances {}, busy length within 1% of its limit {}, {} kinds of line refused, {:.1} s",
-        arguments.seed,
-        seen.tables,
-        seen.reports,
+        "  accepted {}, turned down {}, tied {}, several instances {}, busy length within 1% of its limit {}, \
+         128 rows {}, 32 tasks {}, 16 processors {}, {} kinds of line refused",
         seen.accepted,
         seen.turned_down,
         seen.tied,
         seen.several_instances,
         seen.about_the_limit,
+        seen.most_rows,
+        seen.most_tasks,
+        seen.most_processors,
         seen.faults.len(),
-        start.elapsed().as_secs_f64()
     );
-    if arguments.only.is_none() && arguments.count >= 20_000 && !missing.is_empty() {
-        println!("{PROGRAM}: never seen: {}", missing.join(", "));
-        std::process::exit(1);
-    }
 }
 
 /// What a run of ordinary length must have met.
@@ -87,6 +107,17 @@ fn missing(seen: &Seen) -> Vec<String> {
         if !seen.reports.contains_key(&number) {
             missing.push(format!("plan_report {number}"));
         }
+    }
+    // Reading tries 7 first, and the report last.
+    for number in [1, 2, 3, 4] {
+        for order in [("rack_table", 7, number), ("plan_report", number, 7)] {
+            if !seen.orders.contains_key(&order) {
+                missing.push(format!("{order:?}"));
+            }
+        }
+    }
+    if !seen.orders.contains_key(&("plan_report", 6, 7)) {
+        missing.push("plan_report 6 with an output too short".to_string());
     }
     let keys = [
         "plan",
@@ -114,6 +145,9 @@ fn missing(seen: &Seen) -> Vec<String> {
         ("ties", seen.tied),
         ("several instances", seen.several_instances),
         ("a busy length about its limit", seen.about_the_limit),
+        ("128 rows", seen.most_rows),
+        ("32 tasks", seen.most_tasks),
+        ("16 processors", seen.most_processors),
     ] {
         if count == 0 {
             missing.push(name.to_string());
@@ -123,26 +157,42 @@ fn missing(seen: &Seen) -> Vec<String> {
 }
 
 /// The file of a case.
-fn file_of(random: &mut Random, case: u64) -> Vec<u8> {
+fn file_of(random: &mut Random, case: u64, seen: &mut Seen) -> Vec<u8> {
     let heavy_welcome = random.one_in(1000);
     let kind = if heavy_welcome {
         random.pick(&[Kind::Small, Kind::Long])
     } else {
-        let kinds =
-            [Kind::Small, Kind::Small, Kind::Middle, Kind::Middle, Kind::Wide, Kind::Edges, Kind::Long];
+        let kinds = [
+            Kind::Small,
+            Kind::Small,
+            Kind::Middle,
+            Kind::Middle,
+            Kind::Wide,
+            Kind::Full,
+            Kind::Edges,
+            Kind::Long,
+        ];
         random.pick(&kinds)
     };
     let mut text = file::write(&plan(random, kind, heavy_welcome));
+    *seen.kinds.entry(kind).or_default() += 1;
+    let mut note = |what: &'static str| *seen.damages.entry(what).or_default() += 1;
     match case % 20 {
-        0 if random.one_in(10) => return Vec::new(),
-        1 | 2 => return damage::about_the_most_rows(random),
-        3..=10 => damage::damage(random, &mut text),
+        0 if random.one_in(10) => {
+            note("empty");
+            return Vec::new();
+        }
+        1 | 2 => {
+            note("126 to 131 rows");
+            return damage::about_the_most_rows(random);
+        }
+        3..=10 => note(damage::damage(random, &mut text)),
         11 => {
             for _ in 0..random.between(2, 4) {
-                damage::damage(random, &mut text);
+                note(damage::damage(random, &mut text));
             }
         }
-        _ => {}
+        _ => note("none"),
     }
     text
 }
@@ -183,12 +233,17 @@ fn compare_table(
         }
         _ => TABLE_BYTES,
     };
-    let mut model_list = Lent::filled(random, length);
-    let mut archive_list = model_list.clone();
+    let lent = Lent::filled(random, length);
+    let file = Lent::of(random, text);
+    let (mut model_list, mut archive_list) = (lent.clone(), lent.clone());
     let model_says = layout::rack_table(text, model_list.list());
-    let archive_says = archive::rack_table(text, archive_list.list());
+    let archive_says = archive::rack_table(file.view(), archive_list.list());
     *seen.tables.entry(model_says.number).or_default() += 1;
     same("rack_table", model_says, archive_says, &model_list, &archive_list)?;
+    stayed("rack_table", archive_says, text, &file, &lent, &archive_list)?;
+    if let (7, Err(also)) = (model_says.number, read) {
+        *seen.orders.entry(("rack_table", 7, also.number)).or_default() += 1;
+    }
     if let (Ok(table), true) = (read, length >= TABLE_BYTES) {
         if file::write(table) != text {
             return Err("the file written from the table read is another file".to_string());
@@ -208,12 +263,18 @@ fn compare_report(
     length: usize,
     seen: &mut Seen,
 ) -> Result<Answer, String> {
-    let mut model_out = Lent::filled(random, length);
-    let mut archive_out = model_out.clone();
+    let lent = Lent::filled(random, length);
+    let file = Lent::of(random, text);
+    let (mut model_out, mut archive_out) = (lent.clone(), lent.clone());
     let model_says = put_report(report.clone(), model_out.list());
-    let archive_says = archive::plan_report(text, archive_out.list());
+    let archive_says = archive::plan_report(file.view(), archive_out.list());
     *seen.reports.entry(model_says.number).or_default() += 1;
     same("plan_report", model_says, archive_says, &model_out, &archive_out)?;
+    stayed("plan_report", archive_says, text, &file, &lent, &archive_out)?;
+    // An output of no bytes is too short for every report.
+    if let (0, Err(refusal)) = (length, report) {
+        *seen.orders.entry(("plan_report", refusal.number, 7)).or_default() += 1;
+    }
     Ok(model_says)
 }
 
@@ -227,11 +288,32 @@ fn same(call: &str, model: Answer, archive: Answer, one: &Lent, other: &Lent) ->
     }
 }
 
+/// The file is as it was, and after a refusal the list too.
+fn stayed(
+    call: &str,
+    says: Answer,
+    text: &[u8],
+    file: &Lent,
+    lent: &Lent,
+    after: &Lent,
+) -> Result<(), String> {
+    if file.view() != text {
+        return Err(format!("{call} wrote to the file"));
+    }
+    if says.number != 0 && lent != after {
+        return Err(format!("{call} was refused and changed something"));
+    }
+    Ok(())
+}
+
 /// Counts what a case brought.
 fn note(text: &[u8], read: &Result<Table, No>, report: &Result<String, No>, seen: &mut Seen) {
     match read {
         Ok(table) => {
             let rows = &table.rows;
+            seen.most_rows += u64::from(rows.len() == 128);
+            seen.most_tasks += u64::from(table.tasks.len() == 32);
+            seen.most_processors += u64::from(table.processors == 16);
             seen.tied += u64::from(rows.iter().enumerate().any(|(r, row)| {
                 rows[..r].iter().any(|k| k.processor == row.processor && k.priority == row.priority)
             }));
