@@ -3,7 +3,7 @@ use mathlib.Core.Path.{_≡_, refl, ap, sym, _∙_}
 use mathlib.Core.Bool.{Bool, true, false, cond, _&&_}
 use mathlib.Core.List.{List}
 use Prim.Native.Nat.{ℕ, suc, _+_, _≤_, _<_}
-use native.Mathlib.Omega.{arith}
+use native.Mathlib.Omega.{arith, by-contra}
 use native.Mathlib.Numerals.{add-one}
 use lib.Dec.{leb}
 use lib.ListN.{length}
@@ -22,42 +22,72 @@ use Rattle.equations.specs.Row.{Row, work, RowBounds}
 use Rattle.equations.specs.RowLaws.{bound-within}
 use Rattle.equations.specs.Beside.{rowOf}
 use Rattle.equations.specs.BesideLaws.{proper-of, SameRows, row-same}
-use Rattle.bounds.specs.declared.rows.RowNumbers.{RowNumbers}
 use Rattle.bounds.specs.Bounds.{limit, Numbers, Analysis, chainBound, slackOf, accepted, Lists, needed, filledIn, Stuck, Given, Refusing, no-plan, too-short, no-busy-length}
 use Rattle.bounds.specs.General.{filled-to}
 use Rattle.bounds.specs.Level.{planBy, Usable, Solved, Analysed}
-use Rattle.bounds.specs.Chains.{tasksOf, numbersOf, Chained}
-use Rattle.bounds.specs.Rows.{Viewing, plan, none}
+use Rattle.bounds.specs.Chains.{tasksOf, numbersOf, boundsOf, Chained}
+use Rattle.bounds.specs.Rows.{Viewing, plan, none, neededFor}
 
 -- What the first short list needs, case by case.
-module _ (T : Table) (l : Lists) where
-  pub needed-busy : length (l .busy) < rows T → needed T l ≡ rows T
-  unfolding needed longEnough
-  needed-busy h = rw (lt-leb (rows T) (length (l .busy)) h)
+module _ (n tasks : ℕ) (l : Lists) where
+  pub needed-busy : length (l .busy) < n → neededFor n tasks l ≡ n
+  unfolding neededFor longEnough
+  needed-busy h = rw (lt-leb n (length (l .busy)) h)
 
-  module _ (b : rows T ≤ length (l .busy)) where
-    pub needed-instances : length (l .instances) < rows T → needed T l ≡ rows T
-    unfolding needed longEnough
-    needed-instances h = rw (le-leb (rows T) (length (l .busy)) b, lt-leb (rows T) (length (l .instances)) h)
+  module _ (b : n ≤ length (l .busy)) where
+    pub needed-instances : length (l .instances) < n → neededFor n tasks l ≡ n
+    unfolding neededFor longEnough
+    needed-instances h = rw (le-leb n (length (l .busy)) b, lt-leb n (length (l .instances)) h)
 
-    module _ (m : rows T ≤ length (l .instances)) where
-      pub needed-bound : length (l .bound) < rows T → needed T l ≡ rows T
-      unfolding needed longEnough
-      needed-bound h = rw (le-leb (rows T) (length (l .busy)) b, le-leb (rows T) (length (l .instances)) m, lt-leb (rows T) (length (l .bound)) h)
+    module _ (m : n ≤ length (l .instances)) where
+      pub needed-bound : length (l .bound) < n → neededFor n tasks l ≡ n
+      unfolding neededFor longEnough
+      needed-bound h = rw (le-leb n (length (l .busy)) b, le-leb n (length (l .instances)) m, lt-leb n (length (l .bound)) h)
 
-      module _ (c : rows T ≤ length (l .bound)) where
-        pub needed-chain : length (l .chain) < T .tasks → needed T l ≡ T .tasks
-        unfolding needed longEnough
-        needed-chain h = rw (le-leb (rows T) (length (l .busy)) b, le-leb (rows T) (length (l .instances)) m, le-leb (rows T) (length (l .bound)) c, lt-leb (T .tasks) (length (l .chain)) h)
+      module _ (c : n ≤ length (l .bound)) where
+        pub needed-chain : length (l .chain) < tasks → neededFor n tasks l ≡ tasks
+        unfolding neededFor longEnough
+        needed-chain h = rw (le-leb n (length (l .busy)) b, le-leb n (length (l .instances)) m, le-leb n (length (l .bound)) c, lt-leb tasks (length (l .chain)) h)
 
-        module _ (d : T .tasks ≤ length (l .chain)) where
-          pub needed-slack : length (l .slack) < T .tasks → needed T l ≡ T .tasks
-          unfolding needed longEnough
-          needed-slack h = rw (le-leb (rows T) (length (l .busy)) b, le-leb (rows T) (length (l .instances)) m, le-leb (rows T) (length (l .bound)) c, le-leb (T .tasks) (length (l .chain)) d, lt-leb (T .tasks) (length (l .slack)) h)
+        module _ (d : tasks ≤ length (l .chain)) where
+          pub needed-slack : length (l .slack) < tasks → neededFor n tasks l ≡ tasks
+          unfolding neededFor longEnough
+          needed-slack h = rw (le-leb n (length (l .busy)) b, le-leb n (length (l .instances)) m, le-leb n (length (l .bound)) c, le-leb tasks (length (l .chain)) d, lt-leb tasks (length (l .slack)) h)
 
-          pub needed-none : T .tasks ≤ length (l .slack) → needed T l ≡ 0
-          unfolding needed longEnough
-          needed-none h = rw (le-leb (rows T) (length (l .busy)) b, le-leb (rows T) (length (l .instances)) m, le-leb (rows T) (length (l .bound)) c, le-leb (T .tasks) (length (l .chain)) d, le-leb (T .tasks) (length (l .slack)) h)
+          pub needed-none : tasks ≤ length (l .slack) → neededFor n tasks l ≡ 0
+          unfolding neededFor longEnough
+          needed-none h = rw (le-leb n (length (l .busy)) b, le-leb n (length (l .instances)) m, le-leb n (length (l .bound)) c, le-leb tasks (length (l .chain)) d, le-leb tasks (length (l .slack)) h)
+
+pub needed-same : (T : Table) (l : Lists) → neededFor (rows T) (T .tasks) l ≡ needed T l
+unfolding needed neededFor
+needed-same T l = refl
+
+-- Each list is long enough.
+pub record Room (n tasks : ℕ) (l : Lists) : Type 0 where
+  pub busy : n ≤ length (l .busy)
+  pub instances : n ≤ length (l .instances)
+  pub bound : n ≤ length (l .bound)
+  pub chain : tasks ≤ length (l .chain)
+  pub slack : tasks ≤ length (l .slack)
+
+-- So it is where nothing is needed.
+pub room-for : (n tasks : ℕ) (l : Lists) → 0 < n → 0 < tasks → neededFor n tasks l ≡ 0 → Room n tasks l
+room-for n tasks l some any z = record { busy = b; instances = m; bound = c; chain = d; slack = e }
+  where
+    b : n ≤ length (l .busy)
+    b = by-contra n (length (l .busy)) (λ h. omega (arith, z, needed-busy n tasks l h))
+
+    m : n ≤ length (l .instances)
+    m = by-contra n (length (l .instances)) (λ h. omega (arith, z, needed-instances n tasks l b h))
+
+    c : n ≤ length (l .bound)
+    c = by-contra n (length (l .bound)) (λ h. omega (arith, z, needed-bound n tasks l b m h))
+
+    d : tasks ≤ length (l .chain)
+    d = by-contra tasks (length (l .chain)) (λ h. omega (arith, z, needed-chain n tasks l b m c h))
+
+    e : tasks ≤ length (l .slack)
+    e = by-contra tasks (length (l .slack)) (λ h. omega (arith, z, needed-slack n tasks l b m c d h))
 
 -- The number of a short list is refused.
 pub refusing-short : (T : Table) (l : Lists) (n : ℕ) → isPlan T ≡ true → 0 < n → needed T l ≡ n → Refusing T l (TooShort n)
@@ -120,6 +150,16 @@ module _ (processors tasks : ℕ) (period deadline steps processor priority time
     row-of : (r : ℕ) → r < n → rowOf P r ≡ rowOf (planOf T) r
     row-of r l = row-same (q .same) r l
 
+    -- What the first short list needs, by the number of rows that was seen: it is refused, or nothing is needed.
+    pub needed-is : (l : Lists) (r : ℕ) → r ≡ neededFor n tasks l → needed T l ≡ r
+    needed-is l r e = sym (needed-same T l) ∙ ap (λ (k : ℕ). neededFor k tasks l) (sym (q .count)) ∙ sym e
+
+    pub refusing-needed : (l : Lists) (r : ℕ) → r ≡ neededFor n tasks l → (r ≡ 0 → ⊥) → Refusing T l (TooShort r)
+    refusing-needed l r e ne = refusing-short T l r (q .plan) (omega arith) (needed-is l r e)
+
+    pub room-left : (l : Lists) (r : ℕ) → r ≡ neededFor n tasks l → r ≡ 0 → (n ≡ 0 → ⊥) → Room n tasks l
+    room-left l r e z ne = room-for n tasks l (omega arith) (ok .tasks-least) (sym e ∙ z)
+
     -- Where the analysis stopped before the last row, that row has no busy length.
     pub refusing-stuck :
         {busy instances bound : List ℕ} {done : ℕ} (l : Lists) → needed T l ≡ 0 → Analysed P busy instances bound done → done < n
@@ -133,9 +173,12 @@ module _ (processors tasks : ℕ) (period deadline steps processor priority time
           before = λ k lk. (at busy k, rw (row-of k (omega arith)) at (a .solved k lk .bounds .busy), a .solved k lk .within);
         })
 
-    module _ (m : RowNumbers) (a : Analysed P (m .busy) (m .instances) (m .bound) (m .done)) (all : n ≤ m .done) where
+    module _ {busy instances bound : List ℕ} {done : ℕ} (a : Analysed P busy instances bound done) (all : n ≤ done) where
+      abbrev N : Numbers
+      N = numbersOf busy instances bound
+
       -- Else all rows have their numbers,
-      analysis : Analysis T (numbersOf m)
+      analysis : Analysis T N
       unfolding planOf
       analysis = record {
         row = λ r l. (let l′ : r < n = omega (arith, q .count) in rw (row-of r l′) at (a .solved r (omega arith) .bounds));
@@ -143,13 +186,14 @@ module _ (processors tasks : ℕ) (period deadline steps processor priority time
       }
 
       -- the chains can be summed,
-      pub chained : Chained tasks period deadline steps (m .bound)
+      pub chained : n ≤ length bound → Chained tasks period deadline steps bound
       unfolding planOf rows firstRow
-      chained = record {
+      chained long = record {
         few = ok .tasks-most;
         periods = ok .tasks .long .one;
         deadlines = ok .tasks .long .two;
         counts = ok .tasks .long .three;
+        bounds = omega (arith, q .count, long);
         period-most = λ i l. ok .tasks .each i l .period-most;
         deadline-most = λ i l. ok .tasks .each i l .deadline-most;
         steps-most = λ i l. ok .tasks .each i l .steps-most;
@@ -159,15 +203,15 @@ module _ (processors tasks : ℕ) (period deadline steps processor priority time
 
       -- and the lists are filled.
       pub given :
-          {busy instances bound chain busy′ instances′ bound′ chain′ : List ℕ} {slack slack′ : List ℤ} {answer : ℕ}
-          → busy′ ≡ filled (at (m .busy)) n busy → instances′ ≡ filled (at (m .instances)) n instances → bound′ ≡ filled (at (m .bound)) n bound
-          → chain′ ≡ filled (chainBound (tasksOf tasks period deadline steps) (numbersOf m)) tasks chain
-          → slack′ ≡ filled (slackOf (tasksOf tasks period deadline steps) (numbersOf m)) tasks slack
-          → answer ≡ cond (accepted (tasksOf tasks period deadline steps) (numbersOf m)) 1 0
-          → Given T (record { busy = busy; instances = instances; bound = bound; chain = chain; slack = slack }) (record { busy = busy′; instances = instances′; bound = bound′; chain = chain′; slack = slack′ }) answer
+          {before after : Lists} {answer : ℕ}
+          → after .busy ≡ filled (at busy) n (before .busy) → after .instances ≡ filled (at instances) n (before .instances) → after .bound ≡ filled (at bound) n (before .bound)
+          → after .chain ≡ filled (chainBound (tasksOf tasks period deadline steps) (boundsOf bound)) tasks (before .chain)
+          → after .slack ≡ filled (slackOf (tasksOf tasks period deadline steps) (boundsOf bound)) tasks (before .slack)
+          → answer ≡ cond (accepted (tasksOf tasks period deadline steps) (boundsOf bound)) 1 0
+          → Given T before after answer
       unfolding filledIn chainBound slackOf inForce accepted firstRow
       given eb em er ec es ea = record {
-        numbers = numbersOf m;
+        numbers = N;
         analysis = analysis;
         lists = rw (eb, em, er, ec, es, q .count);
         says = ea;

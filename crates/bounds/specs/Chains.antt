@@ -5,7 +5,6 @@ use Prim.Native.Nat.{ℕ, _≤_, _<_}
 use lib.ListN.{length}
 use Rattle.facts.specs.Sums.{sum}
 use Rattle.table.specs.Table.{Table, at, tableOf, rows}
-use Rattle.bounds.specs.declared.rows.RowNumbers.{RowNumbers}
 use Rattle.bounds.specs.Bounds.{Numbers}
 
 -- A table's tasks without its rows: bounds and slacks of chains read no more.
@@ -13,8 +12,12 @@ abbrev pub tasksOf : ℕ → List ℕ → List ℕ → List ℕ → Table
 tasksOf tasks period deadline steps = tableOf 0 tasks period deadline steps [] [] []
 
 -- The numbers of the rows, from their lists.
-abbrev pub numbersOf : RowNumbers → Numbers
-numbersOf n = record { busy = at (n .busy); instances = at (n .instances); bound = at (n .bound) }
+abbrev pub numbersOf : List ℕ → List ℕ → List ℕ → Numbers
+numbersOf busy instances bound = record { busy = at busy; instances = at instances; bound = at bound }
+
+-- The bounds alone: chains read no more.
+abbrev pub boundsOf : List ℕ → Numbers
+boundsOf bound = numbersOf [] [] bound
 
 -- The lists have so many tasks, in range, of at most 128 rows with bounds up to 10,000,000.
 pub record Chained (tasks : ℕ) (period deadline steps bound : List ℕ) : Type 0 where
@@ -22,6 +25,7 @@ pub record Chained (tasks : ℕ) (period deadline steps bound : List ℕ) : Type
   pub periods : tasks ≤ length period
   pub deadlines : tasks ≤ length deadline
   pub counts : tasks ≤ length steps
+  pub bounds : rows (tasksOf tasks period deadline steps) ≤ length bound
   pub period-most : (i : ℕ) → i < tasks → at period i ≤ 1000000
   pub deadline-most : (i : ℕ) → i < tasks → at deadline i ≤ 160000000
   pub steps-most : (i : ℕ) → i < tasks → at steps i ≤ 16

@@ -13,10 +13,34 @@ use Rattle.facts.specs.Least.{Unanswered}
 use Rattle.equations.specs.Row.{Row, work, Greatest, RowBounds}
 use Rattle.equations.specs.Beside.{rowOf}
 use Rattle.equations.specs.BesideLaws.{Tied}
-use Rattle.bounds.specs.declared.level.Level.{Level}
 use Rattle.bounds.specs.Bounds.{limit}
 use Rattle.bounds.specs.Collected.{countIf, collected, scattered}
 use Rattle.bounds.specs.Climb.{Ranged, workOf, gatheredRow}
+
+-- Rows gathered side by side: the tied ones come first, then the more urgent ones, `count` in all.
+pub record Level : Type 0 where
+  pub tied : ℕ
+  pub count : ℕ
+  pub index : List ℕ
+  pub period : List ℕ
+  pub cost : List ℕ
+
+abbrev pub levelBy : ℕ → ℕ → List ℕ → List ℕ → List ℕ → Level
+levelBy tied count index period cost = record { tied = tied; count = count; index = index; period = period; cost = cost }
+
+-- The lists that a level is gathered into have 128 entries,
+pub record Roomy (index period cost : List ℕ) : Type 0 where
+  pub index-size : length index ≡ 128
+  pub period-size : length period ≡ 128
+  pub cost-size : length cost ≡ 128
+
+-- and so have all that are lent for the work on it.
+pub record Lent (index period cost due later begin best : List ℕ) : Type 0 where
+  pub roomy : Roomy index period cost
+  pub due-size : length due ≡ 128
+  pub later-size : length later ≡ 128
+  pub begin-size : length begin ≡ 128
+  pub best-size : length best ≡ 128
 
 -- The plan whose rows are these lists; which of them are first says nothing here.
 abbrev pub planBy : ℕ → List ℕ → List ℕ → List ℕ → List ℕ → Plan
@@ -86,16 +110,13 @@ pub record LevelOf (P : Plan) (r : ℕ) (l : Level) : Type 0 where
 
 -- The bounds of the tied rows, where D is the level's busy length.
 pub record TiedBounds (l : Level) (D : ℕ) (bound : List ℕ) : Type 0 where
-  pub size : length bound ≡ 128
   pub each : (i : ℕ) → i < l .tied → Greatest (levelRow l i) (ceil D (at (l .period) i)) (at bound i)
 
 -- The lists with the numbers of the tied rows laid in.
-pub record Laid (l : Level) (D : ℕ) (busy instances bound busy′ instances′ bound′ : List ℕ) : Type 0 where
-  pub tied-bound : List ℕ
-  pub tied-bounds : TiedBounds l D tied-bound
-  pub busy-is : busy′ ≡ scattered (at (l .index)) (λ i. D) (l .tied) busy
-  pub instances-is : instances′ ≡ scattered (at (l .index)) (λ i. ceil D (at (l .period) i)) (l .tied) instances
-  pub bound-is : bound′ ≡ scattered (at (l .index)) (at tied-bound) (l .tied) bound
+pub record Laid (tied D : ℕ) (index period best busy instances bound busy′ instances′ bound′ : List ℕ) : Type 0 where
+  pub busy-is : busy′ ≡ scattered (at index) (λ i. D) tied busy
+  pub instances-is : instances′ ≡ scattered (at index) (λ i. ceil D (at period i)) tied instances
+  pub bound-is : bound′ ≡ scattered (at index) (at best) tied bound
 
 -- Row k's numbers stand in the lists, its busy length within the limit.
 pub record Solved (P : Plan) (busy instances bound : List ℕ) (k : ℕ) : Type 0 where

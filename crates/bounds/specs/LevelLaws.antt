@@ -21,12 +21,11 @@ use Rattle.equations.specs.RowLaws.{row-ext}
 use Rattle.equations.specs.BesideLaws.{Tied, work-level, work-tied}
 use Rattle.facts.specs.Least.{Least, Unanswered}
 use Rattle.bounds.specs.General.{least-ext, unanswered-ext}
-use Rattle.bounds.specs.declared.level.Level.{Level}
 use Rattle.bounds.specs.Collected.{countIf, collected, scattered}
 use Rattle.bounds.specs.CollectedLaws.{count-apart, count-yes, count-no, collected-none, collected-yes, collected-no, length-collected, collected-kept, Holds, held, found, sum-collected, Lies, missed, hit, lies}
 use Rattle.bounds.specs.Climb.{Ranged, workOf, gatheredRow}
 use Rattle.bounds.specs.ClimbLaws.{work-gathered}
-use Rattle.bounds.specs.Level.{planBy, Usable, chosen, chosenIn, gathered, Sound, levelWork, levelRow, LevelOf, TiedBounds, Laid, Solved, Analysed, Partly}
+use Rattle.bounds.specs.Level.{Level, levelBy, Roomy, Lent, planBy, Usable, chosen, chosenIn, gathered, Sound, levelWork, levelRow, LevelOf, TiedBounds, Laid, Solved, Analysed, Partly}
 use Rattle.bounds.specs.Bounds.{limit}
 use borrow.Author.Count.{below-more as more-below}
 use mathlib.Core.Logic.{_⊎_, inl, inr}
@@ -168,16 +167,17 @@ module _ (rows : ℕ) (period processor priority time : List ℕ) (r : ℕ) wher
   unfolding sumIf
   sum-split f = sym (sum-add rows (λ k. cond (ties k) (f k) 0) (λ k. cond (urgent k) (f k) 0)) ∙ sum-ext rows (λ k l. split f k)
 
-  -- A level with nothing gathered, and one whose rows so far are the tied ones.
-  abbrev pub nothing : List ℕ → Level
-  nothing z = record { tied = 0; count = 0; index = z; period = z; cost = z }
-
+  -- A level whose rows so far are the tied ones.
   abbrev pub marked : Level → Level
   marked x = record { tied = x .count; count = x .count; index = x .index; period = x .period; cost = x .cost }
 
-  module _ (ok : Usable rows period processor priority time) (l : r < rows) (z : List ℕ) (size : length z ≡ 128) where
+  module _
+      (ok : Usable rows period processor priority time) (l : r < rows) (index₀ period₀ cost₀ : List ℕ) (size : Roomy index₀ period₀ cost₀) where
+    abbrev nothing : Level
+    nothing = levelBy 0 0 index₀ period₀ cost₀
+
     abbrev first : Level
-    first = gathered ties period time rows (nothing z)
+    first = gathered ties period time rows nothing
 
     abbrev whole : Level
     whole = gathered urgent period time rows (marked first)
@@ -196,7 +196,7 @@ module _ (rows : ℕ) (period processor priority time : List ℕ) (r : ℕ) wher
     whole-room = omega (arith, all-room, first-count)
 
     first-sizes : (length (first .index) ≡ 128) × (length (first .period) ≡ 128) × (length (first .cost) ≡ 128)
-    first-sizes = let g = gathered-sizes ties period time (nothing z) rows first refl in (g .0 ∙ size, g .1 ∙ size, g .2 ∙ size)
+    first-sizes = let g = gathered-sizes ties period time nothing rows first refl in (g .0 ∙ size .index-size, g .1 ∙ size .period-size, g .2 ∙ size .cost-size)
 
     whole-sizes : (length (whole .index) ≡ 128) × (length (whole .period) ≡ 128) × (length (whole .cost) ≡ 128)
     whole-sizes = let g = gathered-sizes urgent period time (marked first) rows whole refl in (g .0 ∙ first-sizes .0, g .1 ∙ first-sizes .1, g .2 ∙ first-sizes .2)
@@ -209,8 +209,8 @@ module _ (rows : ℕ) (period processor priority time : List ℕ) (r : ℕ) wher
     unfolding gathered
     whole-tied = refl
 
-    tied-entry : (i : ℕ) → i < first .count → (k : ℕ) × Entry ties period time rows (nothing z) first-room size size size first i k
-    tied-entry i h = gathered-entry ties period time rows (nothing z) first-room size size size i (omega arith) h
+    tied-entry : (i : ℕ) → i < first .count → (k : ℕ) × Entry ties period time rows nothing first-room (size .index-size) (size .period-size) (size .cost-size) first i k
+    tied-entry i h = gathered-entry ties period time rows nothing first-room (size .index-size) (size .period-size) (size .cost-size) i (omega arith) h
 
     kept : (i : ℕ) → i < first .count → (at (whole .index) i ≡ at (first .index) i) × (at (whole .period) i ≡ at (first .period) i) × (at (whole .cost) i ≡ at (first .cost) i)
     kept i h = gathered-kept urgent period time rows (marked first) whole-room (first-sizes .0) (first-sizes .1) (first-sizes .2) i h
@@ -240,12 +240,12 @@ module _ (rows : ℕ) (period processor priority time : List ℕ) (r : ℕ) wher
     level-work t =
         let f : ℕ → ℕ = λ k. ceil t (at period k) * at time k in
         let two : levelWork whole t ≡ levelWork first t + sumIf rows urgent f = gathered-work urgent period time rows (marked first) whole-room (first-sizes .0) (first-sizes .1) (first-sizes .2) t in
-        let one : levelWork first t ≡ levelWork (nothing z) t + sumIf rows ties f = gathered-work ties period time rows (nothing z) first-room size size size t in
-        let none : levelWork (nothing z) t ≡ 0 = work-none z z t in
+        let one : levelWork first t ≡ levelWork nothing t + sumIf rows ties f = gathered-work ties period time rows nothing first-room (size .index-size) (size .period-size) (size .cost-size) t in
+        let none : levelWork nothing t ≡ 0 = work-none period₀ cost₀ t in
         omega (arith, two, one, none, sum-split f, work-level P r t l)
 
-    own : (i : ℕ) × (0 ≤ i) × (i < first .count) × Entry ties period time rows (nothing z) first-room size size size first i r
-    own = gathered-found ties period time rows (nothing z) first-room size size size r l ties-own
+    own : (i : ℕ) × (0 ≤ i) × (i < first .count) × Entry ties period time rows nothing first-room (size .index-size) (size .period-size) (size .cost-size) first i r
+    own = gathered-found ties period time rows nothing first-room (size .index-size) (size .period-size) (size .cost-size) r l ties-own
 
     pub level-of : LevelOf P r whole
     level-of = record {
@@ -263,14 +263,19 @@ module _ (rows : ℕ) (period processor priority time : List ℕ) (r : ℕ) wher
         here : (i : ℕ) → i < whole .tied → i < first .count
         here i h = omega (arith, whole-tied)
 
-    -- The same, for levels that are known to be gathered so.
-    pub room-after : (x : Level) → x ≡ first → x .count + countIf rows urgent ≤ 128
-    room-after x e = rw e whole-room
+    -- The same, for lists that are known to be gathered so, first up to `tied` and then up to `count`.
+    module _ (tied : ℕ) (index₁ period₁ cost₁ : List ℕ) (e : levelBy 0 tied index₁ period₁ cost₁ ≡ first) where
+      pub room-after : tied + countIf rows urgent ≤ 128
+      room-after = let same : tied ≡ first .count = ap (λ (x : Level). x .count) e in omega (arith, same, whole-room)
 
-    pub level-built : (x y : Level) → x ≡ first → y ≡ gathered urgent period time rows (marked x) → LevelOf P r y
-    level-built x y e f =
-        let g : y ≡ whole = f ∙ ap (λ (u : Level). gathered urgent period time rows (marked u)) e in
-        rw g level-of
+      pub level-built :
+          (count : ℕ) (index₂ period₂ cost₂ : List ℕ)
+          → levelBy 0 count index₂ period₂ cost₂ ≡ gathered urgent period time rows (levelBy 0 tied index₁ period₁ cost₁)
+          → LevelOf P r (levelBy tied count index₂ period₂ cost₂)
+      unfolding gathered
+      level-built count index₂ period₂ cost₂ f =
+          let g : levelBy tied count index₂ period₂ cost₂ ≡ gathered urgent period time rows (marked (levelBy 0 tied index₁ period₁ cost₁)) = ap (λ (x : Level). levelBy tied (x .count) (x .index) (x .period) (x .cost)) f in
+          rw (g ∙ ap (λ (u : Level). gathered urgent period time rows (marked u)) e) level-of
 
 -- The numbers of a level's tied rows are those of the plan's rows.
 module _ {P : Plan} {r : ℕ} {l : Level} (o : LevelOf P r l) (lr : r < P .rows) where
@@ -292,6 +297,13 @@ module _ {P : Plan} {r : ℕ} {l : Level} (o : LevelOf P r l) (lr : r < P .rows)
     bound = rw (row-is i h) at (b .each i h);
   }
 
+-- Lists that are the same have the same sizes.
+pub lent-same :
+    {index period cost due later begin best index′ period′ cost′ due′ later′ begin′ best′ : List ℕ}
+    → index′ ≡ index → period′ ≡ period → cost′ ≡ cost → due′ ≡ due → later′ ≡ later → begin′ ≡ begin → best′ ≡ best
+    → Lent index period cost due later begin best → Lent index′ period′ cost′ due′ later′ begin′ best′
+lent-same i p c d l b m lent = rw (i, p, c, d, l, b, m) lent
+
 -- One turn of the analysis: the row is solved already,
 pub partly-skip :
     {P : Plan} {busy instances bound : List ℕ} {row : ℕ} → row < P .rows → (at busy row ≡ 0 → ⊥)
@@ -307,9 +319,10 @@ partly-skip {P} {busy} {instances} {bound} {row} l ne p = record {
 
 -- or it is solved with the rows tied with it.
 module _
-    {P : Plan} {r D : ℕ} {l : Level} {busy instances bound busy′ instances′ bound′ : List ℕ} (lr : r < P .rows)
+    {P : Plan} {r D : ℕ} {l : Level} {best busy instances bound busy′ instances′ bound′ : List ℕ} (lr : r < P .rows)
     (lb : P .rows ≤ length busy) (li : P .rows ≤ length instances) (lc : P .rows ≤ length bound)
-    (o : LevelOf P r l) (d : Least (levelWork l) D) (within : D ≤ limit) (laid : Laid l D busy instances bound busy′ instances′ bound′) where
+    (o : LevelOf P r l) (d : Least (levelWork l) D) (within : D ≤ limit) (ends : TiedBounds l D best)
+    (laid : Laid (l .tied) D (l .index) (l .period) best busy instances bound busy′ instances′ bound′) where
   -- What a row's entries are after the numbers are laid.
   data Entries (k : ℕ) : Type 0 where
     as-before : (at busy′ k ≡ at busy k) → (at instances′ k ≡ at instances k) → (at bound′ k ≡ at bound k) → (k ≡ r → ⊥) → Entries k
@@ -325,8 +338,8 @@ module _
       go (hit i h e same) =
           let b : at busy′ k ≡ D = rw (laid .busy-is) (same (λ j. D) busy 0 (omega arith)) in
           let m : at instances′ k ≡ ceil D (at (l .period) i) = rw (laid .instances-is) (same (λ j. ceil D (at (l .period) j)) instances 0 (omega arith)) in
-          let c : at bound′ k ≡ at (laid .tied-bound) i = rw (laid .bound-is) (same (at (laid .tied-bound)) bound 0 (omega arith)) in
-          solved (record { bounds = rw (b, m, c) (rw e at (tied-solved o lr d (laid .tied-bounds) i h)); within = rw b within })
+          let c : at bound′ k ≡ at best i = rw (laid .bound-is) (same (at best) bound 0 (omega arith)) in
+          solved (record { bounds = rw (b, m, c) (rw e at (tied-solved o lr d ends i h)); within = rw b within })
 
   pub partly-laid : Partly P busy instances bound r → Partly P busy′ instances′ bound′ (r + 1)
   partly-laid p = record {

@@ -1,9 +1,7 @@
 // The ends of the instances of tied rows, and with them the rows' bounds.
 
-use crate::level::Level;
 use crate::level::advance;
 use crate::level::begin_work;
-use crate::level::zeros;
 ghost use mathlib.Core.Path.{_≡_};
 ghost use Prim.Native.Nat.{ℕ, max, min, _-_, _≤_, _<_};
 ghost use lib.ListN.{length};
@@ -13,7 +11,6 @@ ghost use Rattle.facts.specs.Rounding.{ceil};
 ghost use Rattle.equations.specs.Row.{Greatest};
 ghost use Rattle.table.specs.Table.{at};
 ghost use Rattle.bounds.specs.Climb.{Ranged, Settled, Sought, gatheredRow, workOf};
-ghost use Rattle.bounds.specs.Level.{Sound, TiedBounds, levelWork};
 
 fn greater(a: u64, b: u64) -> u64
     ensures { λ r. ⌜ r ≡ max a b ⌝ }
@@ -75,8 +72,24 @@ fn settle_last(tied: usize, span: u64, begin: &[u64], best: &mut [u64])
     }
 }
 
+// The first instance of each tied row is sought: it begins at 0, and there is no bound yet. Periods are 1 or more: the test
+// is there for speed, as in `begin_work`.
+fn seek_first(tied: usize, period: &[u64], begin: &mut [u64], best: &mut [u64])
+    requires { ⌜ (tied ≤ length (now period)) × (tied ≤ length (now begin)) × (tied ≤ length (now best)) × ((i : ℕ) → i < tied → 0 < at (now period) i) ⌝ }
+    ensures { λ r. ⌜ (now (begin .exit) ≡ filled (λ i. 0) tied (now (begin .entry))) × (now (best .exit) ≡ filled (λ i. 0) tied (now (best .entry))) ⌝ }
+{
+    let mut i: usize = 0;
+    while i < tied {
+        if 0 < period[i] {
+            begin[i] = 0;
+            best[i] = 0;
+        }
+        i += 1;
+    }
+}
+
 // The clock climbs to the busy length, `span`, past every end of an instance of a tied row: `best` has their bounds.
-fn end_instances(
+pub(crate) fn end_instances(
     tied: usize,
     count: usize,
     span: u64,
@@ -89,9 +102,9 @@ fn end_instances(
 )
     requires { ⌜ Ranged count (now period) (now cost) × (tied ≤ count) × (0 < count) × Least (workOf count (now period) (now cost)) span × (span ≤ 10000000) ⌝ }
     requires { ⌜ (count ≤ length (now due)) × (count ≤ length (now later)) × (tied ≤ length (now begin)) × (tied ≤ length (now best)) ⌝ }
-    requires { ⌜ ((i : ℕ) → at (now begin) i ≡ 0) × ((i : ℕ) → at (now best) i ≡ 0) ⌝ }
     ensures { λ r. ⌜ ((i : ℕ) → i < tied → Greatest (gatheredRow count (now (period .entry)) (now (cost .entry)) i) (ceil span (at (now (period .entry)) i)) (at (now (best .exit)) i)) ⌝ }
 {
+    seek_first(tied, period, begin, best);
     let mut t: u64 = 1;
     let mut work = begin_work(count, period, cost, due, later);
     while t < span {
@@ -99,29 +112,4 @@ fn end_instances(
         work += advance(count, t, period, cost, due, later);
     }
     settle_last(tied, span, begin, best);
-}
-
-// The bounds of a level's tied rows, where `span` is its busy length.
-pub(crate) fn tied_bounds(level: Level, span: u64) -> [u64; 128]
-    requires { ⌜ Sound level × Least (levelWork level) span × (span ≤ 10000000) ⌝ }
-    ensures { λ r. ⌜ TiedBounds level span r ⌝ }
-{
-    let period = level.period;
-    let cost = level.cost;
-    let mut due = zeros();
-    let mut later = zeros();
-    let mut begin = zeros();
-    let mut best = zeros();
-    end_instances(
-        level.tied,
-        level.count,
-        span,
-        &period,
-        &cost,
-        &mut due,
-        &mut later,
-        &mut begin,
-        &mut best,
-    );
-    best
 }

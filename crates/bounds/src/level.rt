@@ -8,15 +8,12 @@ ghost use Rattle.facts.specs.Rounding.{ceil};
 ghost use Rattle.table.specs.Table.{at};
 ghost use Rattle.bounds.specs.Collected.{countIf};
 ghost use Rattle.bounds.specs.Climb.{Advanced, Begun, Ranged, Zeros};
-ghost use Rattle.bounds.specs.Level.{LevelOf, Usable, chosen, chosenIn, gathered, planBy};
+ghost use Rattle.bounds.specs.Level.{LevelOf, Roomy, Usable, chosen, chosenIn, gathered, levelBy, planBy};
 
-// The rows tied with the one asked about come first, then the more urgent ones.
-pub(crate) struct Level {
+// How many rows a level has. The ones tied with the row asked about come first, then the more urgent ones.
+pub(crate) struct Counts {
     pub(crate) tied: usize,
     pub(crate) count: usize,
-    pub(crate) index: [u64; 128],
-    pub(crate) period: [u64; 128],
-    pub(crate) cost: [u64; 128],
 }
 
 // A list of 128 entries, all 0.
@@ -39,9 +36,9 @@ fn is_chosen(processor: u64, priority: u64, place: u64, rank: u64, tied: bool) -
     rank < priority
 }
 
-// The level with the tied rows, or the more urgent ones, gathered behind those that it has.
+// Gathers the tied rows, or the more urgent ones, into the last three lists from position `from` on; answers where they end.
 fn gather(
-    level: Level,
+    from: usize,
     rows: usize,
     place: u64,
     rank: u64,
@@ -50,27 +47,29 @@ fn gather(
     processor: &[u64],
     priority: &[u64],
     time: &[u64],
-) -> Level
-    requires { ⌜ Usable rows (now periods) (now processor) (now priority) (now time) ⌝ }
-    requires { ⌜ level .count + countIf rows (chosenIn (now processor) (now priority) place rank tied) ≤ 128 ⌝ }
-    ensures { λ r. ⌜ r ≡ gathered (chosenIn (now (processor .entry)) (now (priority .entry)) place rank tied) (now (periods .entry)) (now (time .entry)) rows level ⌝ }
+    index: &mut [u64],
+    period: &mut [u64],
+    cost: &mut [u64],
+) -> usize
+    requires { ⌜ Usable rows (now periods) (now processor) (now priority) (now time) × Roomy (now index) (now period) (now cost) ⌝ }
+    requires { ⌜ from + countIf rows (chosenIn (now processor) (now priority) place rank tied) ≤ 128 ⌝ }
+    ensures { λ r. ⌜ levelBy 0 r (now (index .exit)) (now (period .exit)) (now (cost .exit)) ≡ gathered (chosenIn (now (processor .entry)) (now (priority .entry)) place rank tied) (now (periods .entry)) (now (time .entry)) rows (levelBy 0 from (now (index .entry)) (now (period .entry)) (now (cost .entry))) ⌝ }
 {
-    let mut next = level;
+    let mut count = from;
     let mut row: usize = 0;
     while row < rows {
         if is_chosen(processor[row], priority[row], place, rank, tied) {
-            let count = next.count;
-            next.index[count] = row as u64;
-            next.period[count] = periods[row];
-            next.cost[count] = time[row];
-            next.count = count + 1;
+            index[count] = row as u64;
+            period[count] = periods[row];
+            cost[count] = time[row];
+            count += 1;
         }
         row += 1;
     }
-    next
+    count
 }
 
-// The level of row `row` of a plan with these rows.
+// Gathers the level of row `row` of a plan with these rows into the last three lists.
 pub(crate) fn level_of(
     row: usize,
     rows: usize,
@@ -78,22 +77,17 @@ pub(crate) fn level_of(
     processor: &[u64],
     priority: &[u64],
     time: &[u64],
-) -> Level
-    requires { ⌜ Usable rows (now periods) (now processor) (now priority) (now time) × (row < rows) ⌝ }
-    ensures { λ r. ⌜ LevelOf (planBy rows (now (periods .entry)) (now (processor .entry)) (now (priority .entry)) (now (time .entry))) row r ⌝ }
+    index: &mut [u64],
+    period: &mut [u64],
+    cost: &mut [u64],
+) -> Counts
+    requires { ⌜ Usable rows (now periods) (now processor) (now priority) (now time) × (row < rows) × Roomy (now index) (now period) (now cost) ⌝ }
+    ensures { λ r. ⌜ LevelOf (planBy rows (now (periods .entry)) (now (processor .entry)) (now (priority .entry)) (now (time .entry))) row (levelBy (r .tied) (r .count) (now (index .exit)) (now (period .exit)) (now (cost .exit))) ⌝ }
 {
     let place = processor[row];
     let rank = priority[row];
-    let zero = zeros();
-    let none = Level {
-        tied: 0,
-        count: 0,
-        index: zero,
-        period: zero,
-        cost: zero,
-    };
-    let mut level = gather(
-        none,
+    let tied = gather(
+        0,
         rows,
         place,
         rank,
@@ -102,11 +96,12 @@ pub(crate) fn level_of(
         processor,
         priority,
         time,
+        index,
+        period,
+        cost,
     );
-    let tied = level.count;
-    level.tied = tied;
-    gather(
-        level,
+    let count = gather(
+        tied,
         rows,
         place,
         rank,
@@ -115,7 +110,11 @@ pub(crate) fn level_of(
         processor,
         priority,
         time,
-    )
+        index,
+        period,
+        cost,
+    );
+    Counts { tied, count }
 }
 
 // How many periods begin in so many ticks. Most clocks move on by less than a period: those need no division.
@@ -129,7 +128,8 @@ pub(crate) fn periods_in(ticks: u64, period: u64) -> u64
     (ticks + (period - 1)) / period
 }
 
-// The first instance of each row comes: its work, and the clock after which the row's next one comes.
+// The first instance of each row comes: its work, and the clock after which the row's next one comes. Times are 1 or more:
+// the test is there for speed. Without it the stores become calls of memcpy and memset, too dear for a level of few rows.
 pub(crate) fn begin_work(
     count: usize,
     period: &[u64],
@@ -143,9 +143,11 @@ pub(crate) fn begin_work(
     let mut work: u64 = 0;
     let mut i: usize = 0;
     while i < count {
-        due[i] = period[i];
-        later[i] = 0;
-        work += cost[i];
+        if 0 < cost[i] {
+            due[i] = period[i];
+            later[i] = 0;
+            work += cost[i];
+        }
         i += 1;
     }
     work

@@ -18,7 +18,7 @@ ghost use Prim.Native.Nat.{ℕ, _≤_};
 ghost use lib.ListN.{length};
 ghost use Rattle.table.specs.Table.{tableOf};
 ghost use Rattle.bounds.specs.Bounds.{Bounding, listsOf};
-ghost use Rattle.bounds.specs.Rows.{Viewing};
+ghost use Rattle.bounds.specs.Rows.{Viewing, neededFor};
 
 // What the bounds answer.
 pub enum Bounded {
@@ -61,6 +61,38 @@ fn rows_of(
     rows
 }
 
+// What the first short list needs, row lists before task lists; 0 where none is short.
+fn room_needed(
+    rows: u64,
+    tasks: u64,
+    busy: &[u64],
+    instances: &[u64],
+    bounds: &[u64],
+    chains: &[u64],
+    slack: &[i64],
+) -> u64
+    ensures { λ r. ⌜ r ≡ neededFor rows tasks (listsOf (now (busy .entry)) (now (instances .entry)) (now (bounds .entry)) (now (chains .entry)) (now (slack .entry))) ⌝ }
+{
+    let count = rows as usize;
+    let chained = tasks as usize;
+    if busy.len() < count {
+        return rows;
+    }
+    if instances.len() < count {
+        return rows;
+    }
+    if bounds.len() < count {
+        return rows;
+    }
+    if chains.len() < chained {
+        return tasks;
+    }
+    if slack.len() < chained {
+        return tasks;
+    }
+    0
+}
+
 // The bounds of the plan in the first eight lists and counts: fills busy length, instances and bound for each row, bound
 // and slack for each task. A refusal leaves the lists as they are.
 pub fn bound(
@@ -97,27 +129,27 @@ pub fn bound(
     }
     let count = rows as usize;
     let chained = tasks as usize;
-    if busy.len() < count {
-        return Bounded::Refused(Refusal::TooShort(rows));
+    let short = room_needed(rows, tasks, busy, instances, bounds, chains, slack);
+    if short != 0 {
+        return Bounded::Refused(Refusal::TooShort(short));
     }
-    if instances.len() < count {
-        return Bounded::Refused(Refusal::TooShort(rows));
-    }
-    if bounds.len() < count {
-        return Bounded::Refused(Refusal::TooShort(rows));
-    }
-    if chains.len() < chained {
-        return Bounded::Refused(Refusal::TooShort(tasks));
-    }
-    if slack.len() < chained {
-        return Bounded::Refused(Refusal::TooShort(tasks));
-    }
-    let numbers = row_numbers(count, &periods, processor, priority, time);
-    let done = numbers.done;
+    let mut spans = zeros();
+    let mut counts = zeros();
+    let mut worst = zeros();
+    let done = row_numbers(
+        count,
+        &periods,
+        processor,
+        priority,
+        time,
+        &mut spans,
+        &mut counts,
+        &mut worst,
+    );
     if done < count {
         return Bounded::Refused(Refusal::NoBusyLength(done as u64 + 1));
     }
-    fill_rows(count, numbers, busy, instances, bounds);
-    let accepted = fill_chains(chained, period, deadline, steps, numbers, chains, slack);
+    fill_rows(count, &spans, &counts, &worst, busy, instances, bounds);
+    let accepted = fill_chains(chained, period, deadline, steps, &worst, chains, slack);
     Bounded::Accepted(accepted)
 }

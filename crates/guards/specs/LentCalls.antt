@@ -1,9 +1,8 @@
 -- What fresh start and arrive on lent lists come to, answer by answer.
-use Prim.Native.Nat.{ℕ, pred, _≤_, _<_}
+use Prim.Native.Nat.{ℕ, pred, _<_}
 use mathlib.Core.Path.{_≡_, refl, sym, _∙_, ap}
-use mathlib.Core.Bool.{Bool, true, false, cond, not, _&&_}
+use mathlib.Core.Bool.{Bool, true, false, _&&_}
 use mathlib.Core.List.{List}
-use lib.ListN.{length}
 use Rattle.facts.specs.TestsLaws.{and-left, and-right}
 use Rattle.facts.specs.Filled.{filled}
 use Rattle.table.specs.Table.{Table, firstRow, rows, isPlan}
@@ -13,13 +12,13 @@ use Rattle.table.specs.declared.refusal.Refusal.the-variants.{NotAPlan, NoSuchT
 use Rattle.guards.specs.declared.state.State.{State}
 use Rattle.guards.specs.declared.state.Outcome.{Outcome}
 use Rattle.guards.specs.declared.state.Called.{Called}
-use Rattle.guards.specs.Moment.{momentOf, stateWith}
+use Rattle.guards.specs.Moment.{momentOf}
 use Rattle.guards.specs.Machine.{start}
 use Rattle.guards.specs.Fits.{fits}
 use Rattle.guards.specs.Calls.{refused, taken, freshStart, hasTask, arrive}
 use Rattle.guards.specs.Arrival.{arrivedAt}
 use Rattle.guards.specs.ArrivalLaws.{arrived-at}
-use Rattle.guards.specs.Lent.{stateOf, outcomeOf, refusedAt, takenAt, onLists}
+use Rattle.guards.specs.Lent.{outcomeOf, refusedAt, takenAt, onLists}
 use Rattle.guards.specs.LentLaws.{held, held-long, lent-no-plan, lent-short, lent-held, start-made}
 
 -- An outcome that leaves the lists of σ.

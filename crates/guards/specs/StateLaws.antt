@@ -1,5 +1,4 @@
 -- How long the lists of a state are.
-use Prim.Native.Nat.{ℕ}
 use mathlib.Core.Path.{_≡_}
 use lib.ListN.{length}
 use Rattle.guards.specs.declared.state.State.{State}

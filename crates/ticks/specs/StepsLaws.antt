@@ -1,10 +1,9 @@
 -- The steps of a tick, one after the other.
 use Prim.Native.Nat.{ℕ, _+_, _≤_, _<_}
 use mathlib.Core.Path.{_≡_, refl, sym, _∙_, ap, subst}
-use mathlib.Core.Bool.{Bool, true, false, cond, not, _&&_}
+use mathlib.Core.Bool.{Bool, true, false, cond, not}
 use mathlib.Core.List.{List, []}
 use native.Mathlib.Omega.{arith}
-use lib.ListN.{getD}
 use Rattle.facts.specs.Filled.{tab, filled}
 use Rattle.facts.specs.FilledLaws.{getD-tab, filled-ext}
 use Rattle.table.specs.Table.{at}
@@ -17,7 +16,7 @@ use Rattle.guards.specs.Rows.{planFrom}
 use Rattle.guards.specs.Lent.{Long, stateOf}
 use Rattle.guards.specs.ListsLaws.{filled-own}
 use Rattle.ticks.specs.Steps.{Placed, Releasing, Stepping, chains, completedIn, usedIn, guardIn, ran, runsIn, endsIn, openedWhere, firstIn, idleIn, readied, stepped}
-use Rattle.ticks.specs.SameLaws.{Same, Chained, same-trans, with-says, with-same, with-long, with-again, idle-same, opened-same, due-same, let-go-same}
+use Rattle.ticks.specs.SameLaws.{Same, Chained, same-trans, with-says, with-same, with-long, with-again, idle-same, due-same, let-go-same}
 
 -- Step 5 reads no used ticks.
 abbrev pub unused : State → Moment

@@ -1,10 +1,9 @@
-use Rattle.bounds.specs.LevelLaws.{gathered-none, gathered-yes, gathered-no, gathered-room, gathered-sizes}
-use Rattle.bounds.proofs.Sizes.{sizes}
 use Prim.Native.Nat.{ℕ, _≤_, _<_, _+_, _-_, _*_}
-use mathlib.Core.Path.{_≡_, refl, sym, _∙_, ap}
+use mathlib.Core.Path.{_≡_, refl, sym, _∙_}
 use mathlib.Core.Logic.{⊎-elim}
-use lib.ListN.{length, length-set, getD}
-use Rattle.bounds.specs.Level.{gathered, chosenIn}
+use lib.ListN.{length, length-set}
+use Rattle.bounds.specs.Level.{levelBy, gathered, chosenIn}
+use Rattle.bounds.specs.LevelLaws.{gathered-none, gathered-yes, gathered-no, gathered-room}
 use native.Mathlib.Omega.{arith}
 use borrow.Author.Needs.{needs}
 use Rattle.bounds.proofs.level.gather.Statement.{statement}
@@ -14,16 +13,17 @@ use Rattle.bounds.proofs.level.gather.Lts as lts
 use Rattle.bounds.proofs.level.is_chosen.Reads as is-chosen-reads
 
 abbrev Inv-loop : tie.InvT-loop
-Inv-loop rows place rank tied periods processor priority time next₀ row₀ next row =
-    (row ≤ rows) × (next ≡ gathered (chosenIn processor priority place rank tied) periods time row next₀)
+Inv-loop from rows place rank tied periods processor priority time index₀ period₀ cost₀ count₀ row₀ index period cost count row =
+    (row ≤ rows) × (length index ≡ length index₀) × (length period ≡ length period₀) × (length cost ≡ length cost₀)
+    × (levelBy 0 count index period cost ≡ gathered (chosenIn processor priority place rank tied) periods time row (levelBy 0 from index₀ period₀ cost₀))
 
 abbrev μ-loop : tie.MeasureT-loop
-μ-loop rows place rank tied periods processor priority time next₀ row₀ next row =
+μ-loop from rows place rank tied periods processor priority time index₀ period₀ cost₀ count₀ row₀ index period cost count row =
     rows - row
 
 -- src/level.rt:60:5
 loop-holds : tie.Need-loop-holds Inv-loop μ-loop
-loop-holds c = (omega arith, gathered-none _ _ _ _)
+loop-holds c = (omega arith, refl, refl, refl, gathered-none _ _ _ _)
 
 -- src/level.rt:61:22
 mul-is-chosen : tie.Need-mul-is-chosen Inv-loop μ-loop
@@ -45,93 +45,72 @@ shared-slice-read-is-chosen-2 c = search needs
 is-chosen-requires : tie.Need-is-chosen-requires Inv-loop μ-loop
 is-chosen-requires c κs = search needs
 
--- src/level.rt:63:13
-mul-next : tie.Need-mul-next Inv-loop μ-loop
-mul-next c =
-    let l = c .before .before .before .before .before .loop in
-    let s = c .before .before .before .before .before .before .before .before .before .before in
-    let z = sizes (s .args .level) _ (s .good .0) in
-    let g = gathered-sizes _ _ _ _ _ _ (l .inv .1) in
-    let room = gathered-room _ _ _ _ _ (s .args .rows) (omega arith) (s .pre .1) (sym (c .before .is-chosen .ensures) ∙ c .if1 .taken) _ (l .inv .1) in
-    omega arith
+-- src/level.rt:62:13
+mul-index : tie.Need-mul-index Inv-loop μ-loop
+mul-index c = let l = c .before .before .before .before .before .loop in
+    let s = c .before .before .before .before .before .before .before .before .before .before .before .before .before in
+    let room = gathered-room _ _ _ _ _ (s .args .rows) (omega arith) (s .pre .1) (sym (c .before .is-chosen .ensures) ∙ c .if1 .taken) _ (l .inv .4) in
+    omega (arith, room, l .inv .1, l .inv .2, l .inv .3, s .pre .0 .1 .index-size, s .pre .0 .1 .period-size, s .pre .0 .1 .cost-size)
+
+-- src/level.rt:62:13
+slice-write-index : tie.Need-slice-write-index Inv-loop μ-loop
+slice-write-index c = let l = c .before .before .before .before .before .loop in
+    let s = c .before .before .before .before .before .before .before .before .before .before .before .before .before in
+    let room = gathered-room _ _ _ _ _ (s .args .rows) (omega arith) (s .pre .1) (sym (c .before .is-chosen .ensures) ∙ c .if1 .taken) _ (l .inv .4) in
+    omega (arith, room, l .inv .1, l .inv .2, l .inv .3, s .pre .0 .1 .index-size, s .pre .0 .1 .period-size, s .pre .0 .1 .cost-size)
+
+-- src/level.rt:63:29
+mul-period : tie.Need-mul-period Inv-loop μ-loop
+mul-period c = search needs
+
+-- src/level.rt:63:29
+shared-slice-read-period : tie.Need-shared-slice-read-period Inv-loop μ-loop
+shared-slice-read-period c = search needs
 
 -- src/level.rt:63:13
-element-write-next : tie.Need-element-write-next Inv-loop μ-loop
-element-write-next c =
-    let l = c .before .before .before .before .before .loop in
-    let s = c .before .before .before .before .before .before .before .before .before .before in
-    let z = sizes (s .args .level) _ (s .good .0) in
-    let g = gathered-sizes _ _ _ _ _ _ (l .inv .1) in
-    let room = gathered-room _ _ _ _ _ (s .args .rows) (omega arith) (s .pre .1) (sym (c .before .is-chosen .ensures) ∙ c .if1 .taken) _ (l .inv .1) in
-    omega arith
+mul-period-2 : tie.Need-mul-period-2 Inv-loop μ-loop
+mul-period-2 c = let l = c .before .before .before .before .before .before .loop in
+    let s = c .before .before .before .before .before .before .before .before .before .before .before .before .before .before in
+    let room = gathered-room _ _ _ _ _ (s .args .rows) (omega arith) (s .pre .1) (sym (c .before .before .is-chosen .ensures) ∙ c .before .if1 .taken) _ (l .inv .4) in
+    omega (arith, room, l .inv .1, l .inv .2, l .inv .3, s .pre .0 .1 .index-size, s .pre .0 .1 .period-size, s .pre .0 .1 .cost-size)
 
--- src/level.rt:64:34
-mul-next-2 : tie.Need-mul-next-2 Inv-loop μ-loop
-mul-next-2 c = search needs
+-- src/level.rt:63:13
+slice-write-period : tie.Need-slice-write-period Inv-loop μ-loop
+slice-write-period c = let l = c .before .before .before .before .before .before .loop in
+    let s = c .before .before .before .before .before .before .before .before .before .before .before .before .before .before in
+    let room = gathered-room _ _ _ _ _ (s .args .rows) (omega arith) (s .pre .1) (sym (c .before .before .is-chosen .ensures) ∙ c .before .if1 .taken) _ (l .inv .4) in
+    omega (arith, room, l .inv .1, l .inv .2, l .inv .3, s .pre .0 .1 .index-size, s .pre .0 .1 .period-size, s .pre .0 .1 .cost-size)
 
--- src/level.rt:64:34
-shared-slice-read-next : tie.Need-shared-slice-read-next Inv-loop μ-loop
-shared-slice-read-next c = search needs
+-- src/level.rt:64:27
+mul-cost : tie.Need-mul-cost Inv-loop μ-loop
+mul-cost c = search needs
 
--- src/level.rt:64:13
-mul-next-3 : tie.Need-mul-next-3 Inv-loop μ-loop
-mul-next-3 c =
-    let l = c .before .before .before .before .before .before .loop in
-    let s = c .before .before .before .before .before .before .before .before .before .before .before in
-    let z = sizes (s .args .level) _ (s .good .0) in
-    let g = gathered-sizes _ _ _ _ _ _ (l .inv .1) in
-    let room = gathered-room _ _ _ _ _ (s .args .rows) (omega arith) (s .pre .1) (sym (c .before .before .is-chosen .ensures) ∙ c .before .if1 .taken) _ (l .inv .1) in
-    omega arith
+-- src/level.rt:64:27
+shared-slice-read-cost : tie.Need-shared-slice-read-cost Inv-loop μ-loop
+shared-slice-read-cost c = search needs
 
 -- src/level.rt:64:13
-element-write-next-2 : tie.Need-element-write-next-2 Inv-loop μ-loop
-element-write-next-2 c =
-    let l = c .before .before .before .before .before .before .loop in
-    let s = c .before .before .before .before .before .before .before .before .before .before .before in
-    let z = sizes (s .args .level) _ (s .good .0) in
-    let g = gathered-sizes _ _ _ _ _ _ (l .inv .1) in
-    let room = gathered-room _ _ _ _ _ (s .args .rows) (omega arith) (s .pre .1) (sym (c .before .before .is-chosen .ensures) ∙ c .before .if1 .taken) _ (l .inv .1) in
-    omega arith
+mul-cost-2 : tie.Need-mul-cost-2 Inv-loop μ-loop
+mul-cost-2 c = let l = c .before .before .before .before .before .before .before .loop in
+    let s = c .before .before .before .before .before .before .before .before .before .before .before .before .before .before .before in
+    let room = gathered-room _ _ _ _ _ (s .args .rows) (omega arith) (s .pre .1) (sym (c .before .before .before .is-chosen .ensures) ∙ c .before .before .if1 .taken) _ (l .inv .4) in
+    omega (arith, room, l .inv .1, l .inv .2, l .inv .3, s .pre .0 .1 .index-size, s .pre .0 .1 .period-size, s .pre .0 .1 .cost-size)
 
--- src/level.rt:65:32
-mul-next-4 : tie.Need-mul-next-4 Inv-loop μ-loop
-mul-next-4 c = search needs
-
--- src/level.rt:65:32
-shared-slice-read-next-2 : tie.Need-shared-slice-read-next-2 Inv-loop μ-loop
-shared-slice-read-next-2 c = search needs
+-- src/level.rt:64:13
+slice-write-cost : tie.Need-slice-write-cost Inv-loop μ-loop
+slice-write-cost c = let l = c .before .before .before .before .before .before .before .loop in
+    let s = c .before .before .before .before .before .before .before .before .before .before .before .before .before .before .before in
+    let room = gathered-room _ _ _ _ _ (s .args .rows) (omega arith) (s .pre .1) (sym (c .before .before .before .is-chosen .ensures) ∙ c .before .before .if1 .taken) _ (l .inv .4) in
+    omega (arith, room, l .inv .1, l .inv .2, l .inv .3, s .pre .0 .1 .index-size, s .pre .0 .1 .period-size, s .pre .0 .1 .cost-size)
 
 -- src/level.rt:65:13
-mul-next-5 : tie.Need-mul-next-5 Inv-loop μ-loop
-mul-next-5 c =
-    let l = c .before .before .before .before .before .before .before .loop in
-    let s = c .before .before .before .before .before .before .before .before .before .before .before .before in
-    let z = sizes (s .args .level) _ (s .good .0) in
-    let g = gathered-sizes _ _ _ _ _ _ (l .inv .1) in
-    let room = gathered-room _ _ _ _ _ (s .args .rows) (omega arith) (s .pre .1) (sym (c .before .before .before .is-chosen .ensures) ∙ c .before .before .if1 .taken) _ (l .inv .1) in
-    omega arith
+add-count : tie.Need-add-count Inv-loop μ-loop
+add-count c = let l = c .before .before .before .before .before .before .before .loop in
+    let s = c .before .before .before .before .before .before .before .before .before .before .before .before .before .before .before in
+    let room = gathered-room _ _ _ _ _ (s .args .rows) (omega arith) (s .pre .1) (sym (c .before .before .before .is-chosen .ensures) ∙ c .before .before .if1 .taken) _ (l .inv .4) in
+    omega (arith, room, l .inv .1, l .inv .2, l .inv .3, s .pre .0 .1 .index-size, s .pre .0 .1 .period-size, s .pre .0 .1 .cost-size)
 
--- src/level.rt:65:13
-element-write-next-3 : tie.Need-element-write-next-3 Inv-loop μ-loop
-element-write-next-3 c =
-    let l = c .before .before .before .before .before .before .before .loop in
-    let s = c .before .before .before .before .before .before .before .before .before .before .before .before in
-    let z = sizes (s .args .level) _ (s .good .0) in
-    let g = gathered-sizes _ _ _ _ _ _ (l .inv .1) in
-    let room = gathered-room _ _ _ _ _ (s .args .rows) (omega arith) (s .pre .1) (sym (c .before .before .before .is-chosen .ensures) ∙ c .before .before .if1 .taken) _ (l .inv .1) in
-    omega arith
-
--- src/level.rt:66:26
-add-next : tie.Need-add-next Inv-loop μ-loop
-add-next c =
-    let l = c .before .before .before .before .before .before .before .loop in
-    let s = c .before .before .before .before .before .before .before .before .before .before .before .before in
-    let z = sizes (s .args .level) _ (s .good .0) in
-    let g = gathered-sizes _ _ _ _ _ _ (l .inv .1) in
-    let room = gathered-room _ _ _ _ _ (s .args .rows) (omega arith) (s .pre .1) (sym (c .before .before .before .is-chosen .ensures) ∙ c .before .before .if1 .taken) _ (l .inv .1) in
-    omega arith
-
--- src/level.rt:68:9
+-- src/level.rt:67:9
 add-row : tie.Need-add-row Inv-loop μ-loop
 add-row c = search needs
 
@@ -141,21 +120,41 @@ loop-less c = search needs
 
 -- src/level.rt:60:5
 loop-again : tie.Need-loop-again Inv-loop μ-loop
-loop-again c =
-    let l = c .before .before .before .before .before .loop in (
+loop-again c = let l = c .before .before .before .before .before .loop in
+    ⊎-elim
+    (λ w. (
       omega arith,
-      ⊎-elim
-          (λ w. w .3 ∙ gathered-yes _ _ _ _ _ _ (l .inv .1) (sym (c .before .is-chosen .ensures) ∙ w .0 .taken))
-          (λ w. w .1 ∙ gathered-no _ _ _ _ _ _ (l .inv .1) (sym (c .before .is-chosen .ensures) ∙ w .0 .left))
-          (c .if1 .came),
-    )
+      rw (w .3) (simp length-set (l .inv .1)),
+      rw (w .4) (simp length-set (l .inv .2)),
+      rw (w .5) (simp length-set (l .inv .3)),
+      rw (w .3, w .4, w .5, w .6) (gathered-yes _ _ _ _ _ _ (l .inv .4) (sym (c .before .is-chosen .ensures) ∙ w .0 .taken)),
+    ))
+    (λ w. (
+      omega arith,
+      rw (w .1) (l .inv .1),
+      rw (w .2) (l .inv .2),
+      rw (w .3) (l .inv .3),
+      rw (w .1, w .2, w .3, w .4) (gathered-no _ _ _ _ _ _ (l .inv .4) (sym (c .before .is-chosen .ensures) ∙ w .0 .left)),
+    ))
+    (c .if1 .came)
 
--- src/level.rt:43:1
+-- src/level.rt:40:1
+same-length : tie.Need-same-length Inv-loop μ-loop
+same-length c = search needs
+
+-- src/level.rt:40:1
+same-length-2 : tie.Need-same-length-2 Inv-loop μ-loop
+same-length-2 c = search needs
+
+-- src/level.rt:40:1
+same-length-3 : tie.Need-same-length-3 Inv-loop μ-loop
+same-length-3 c = search needs
+
+-- src/level.rt:40:1
 returns : tie.Need-returns Inv-loop μ-loop
-returns c =
-    let l = c .before .loop in
-    let e : l .row ≡ c .before .before .before .before .before .before .args .rows = omega arith in
-    rw (← e) (l .inv .1)
+returns c = let l = c .before .loop in
+    let e : l .row ≡ c .before .before .before .before .before .before .before .before .before .args .rows = omega arith in
+    rw (← e) (l .inv .4)
 
 pub gather-spec : {M : Type 1} → statement M
 gather-spec =
@@ -169,18 +168,21 @@ gather-spec =
     mul-is-chosen-2
     shared-slice-read-is-chosen-2
     is-chosen-requires
-    mul-next
-    element-write-next
-    mul-next-2
-    shared-slice-read-next
-    mul-next-3
-    element-write-next-2
-    mul-next-4
-    shared-slice-read-next-2
-    mul-next-5
-    element-write-next-3
-    add-next
+    mul-index
+    slice-write-index
+    mul-period
+    shared-slice-read-period
+    mul-period-2
+    slice-write-period
+    mul-cost
+    shared-slice-read-cost
+    mul-cost-2
+    slice-write-cost
+    add-count
     add-row
     loop-less
     loop-again
+    same-length
+    same-length-2
+    same-length-3
     returns)

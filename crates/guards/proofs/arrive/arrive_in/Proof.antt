@@ -5,7 +5,6 @@ use Rattle.guards.specs.ArrivalLaws.{task-of, less-one, first-row-below,
 use Rattle.guards.specs.RowsLaws.{RowsOf, rows-in-of, no-plan, plan-rows}
 use Rattle.guards.specs.Calls.{hasTask}
 use Rattle.guards.specs.declared.state.State.{State}
-use Rattle.guards.specs.declared.rows.Rows.{Rows}
 use Rattle.table.specs.Table.{Table, tableOf, at, firstRow, rows}
 use Rattle.table.specs.TableLaws.{checked}
 use Rattle.facts.specs.Sums.{sum}

@@ -3,7 +3,7 @@ use Rattle.guards.specs.Lent.{rowsFitIn, stateOf}
 use Rattle.guards.specs.declared.state.State.{State}
 use Rattle.guards.specs.declared.rows.Rows.{Rows}
 use borrow.Author.Tests.{not-true, not-false}
-use mathlib.Core.Path.{_≡_, sym, _∙_}
+use mathlib.Core.Path.{sym, _∙_}
 use native.Mathlib.Omega.{arith}
 use borrow.Author.Needs.{needs}
 use Rattle.guards.proofs.fits.rows_fit.Statement.{statement}

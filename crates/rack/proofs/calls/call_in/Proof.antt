@@ -5,9 +5,9 @@ use Rattle.rack.proofs.calls.call_in.Statement.{statement}
 use Rattle.rack.proofs.calls.call_in.Tie as tie
 use Rattle.rack.proofs.calls.call_in.Reads as reads
 use Rattle.rack.proofs.calls.call_in.Lts as lts
-use Rattle.columns.proofs.arrive.arrive_in.Reads as arrive-in-reads
-use Rattle.columns.proofs.fresh.fresh_in.Reads as fresh-in-reads
-use Rattle.columns.proofs.tick.tick_in.Reads as tick-in-reads
+use Rattle.columns.proofs.arrive_in.arrive_in.Reads as arrive-in-reads
+use Rattle.columns.proofs.fresh_in.fresh_in.Reads as fresh-in-reads
+use Rattle.columns.proofs.tick_in.tick_in.Reads as tick-in-reads
 
 -- src/calls.rt:63:49
 enum-told : tie.Need-enum-told

@@ -1,0 +1,5 @@
+pub mod Asked
+pub mod Apart
+pub mod Output
+pub mod Parts
+pub mod Laid

@@ -1,0 +1,2 @@
+pub mod RecordsRead
+pub mod RecordsReadLaws
