@@ -1,8 +1,7 @@
 -- `report::lines::magnitude` meets its contract: what a signed word holds is the number, and nothing is lost on the way.
-use mathlib.Core.Path.{_≡_, _∙_, ap}
-use lib.IntN.{ℤ, negsuc, _-ℤ_, natAbs}
+use mathlib.Core.Path.{ap}
+use lib.IntN.{negsuc, _-ℤ_, natAbs}
 use mir.Syntax.{w64}
-use mir.Val.{toZ, ofZ, Fits}
 use mir.ValLaws.{toZ-ofZ}
 use Rattle.report.specs.SignLaws.{above-fits, below-fits, rest-fits, rest-is}
 use native.Mathlib.Omega.{arith}
