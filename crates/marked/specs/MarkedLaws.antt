@@ -40,7 +40,7 @@ use Rattle.guards.specs.Running.{isOpen, better, best, running, runs as isRunni
 use Rattle.guards.specs.Machine.{start, arrived, worked, idle, opened, due, letGo, beforeRelease, ticked}
 use Rattle.guards.specs.Fits.{firstFits, laterFits, rowFits, fits}
 use Rattle.guards.specs.Calls.{freshStart, hasTask, arrive, isDone, wrongDone, usedUp, releasedByte, tick}
-use Rattle.marked.specs.Text.{bytesOf, textOf}
+use Rattle.marked.specs.Text.{textOf}
 use Rattle.marked.specs.Run.{lentTo, outcomeOf, steps, after, isTaken, allTaken, clocks, answers, told, toldReleased, countedReleased, countedCompleted, rowRuns, fullTimes, isIn, arrivingAt, atFullTimes}
 use Rattle.marked.specs.Marked.{RowNumbers, numbers, reported, unbounded, InstanceBound, expectedOf, numbersOf, HasBounds, Every, Holds, paperFile, paperPlan, paperReport, ownChains, p1, p2, p3, p4, p5, p6, p8, p9, p10, p11, p12, examples}
 
@@ -133,7 +133,7 @@ reported-by file report T N short holds plan analysis text =
     (holds, λ out room. read short holds (given plan analysis (rw (text, le-ltb _ _ room))))
 
 report-holds : Holds p1
-unfolding p1 paperFile paperPlan paperReport textOf bytesOf words word blank rowsAsked own added placed following advanced isDigit stands digitsFrom valueFrom lineAt tooMany judged heldFrom held numbersOf expectedOf rowPasses rowTest allSettled worst work workTo rowOf demand beside level ceil settled found iterate isPlan inRange rangeOf ranges tasksRight taskRight rowsRight rowRight longEnough rows firstRow planOf taskOf cost all sum sumIf chainBound slackOf accepted inForce rowLoad loadOf load digits decimal line rowLines slackLine taskLines processorLines reportOf figures reportText joined
+unfolding p1 paperFile paperPlan paperReport textOf words word blank rowsAsked own added placed following advanced isDigit stands digitsFrom valueFrom lineAt tooMany judged heldFrom held numbersOf expectedOf rowPasses rowTest allSettled worst work workTo rowOf demand beside level ceil settled found iterate isPlan inRange rangeOf ranges tasksRight taskRight rowsRight rowRight longEnough rows firstRow planOf taskOf cost all sum sumIf chainBound slackOf accepted inForce rowLoad loadOf load digits decimal line rowLines slackLine taskLines processorLines reportOf figures reportText joined
 report-holds =
     let rows = numbers 2 1 [] 2 ∷ numbers 4 1 [] 4 ∷ numbers 2 1 [] 2 ∷ numbers 5 1 [] 5 ∷ [] in
     reported-by paperFile paperReport paperPlan (numbersOf rows) (leb-true _ _ refl) refl refl (analysis-by paperPlan refl 9 rows refl) refl

@@ -5,7 +5,7 @@ use mathlib.Core.Bool.{Bool, true, cond}
 use mathlib.Core.List.{List}
 use native.Mathlib.Omega.{arith}
 use lib.Dec.{leb, eqb}
-use lib.IntN.{pos, _-ℤ_}
+use lib.IntN.{pos}
 use lib.Signed.{leZ}
 use Rattle.facts.specs.Tests.{all}
 use Rattle.facts.specs.Sums.{sum, sumIf}
@@ -102,11 +102,15 @@ module _ {S T : Table} (ok : Checked T) (a : Agree S T) where
       rw (a .steps i l)
       (sum-ext (at (T .steps) i) (λ s h. ap (λ (n : ℕ). N .bound (n + s)) (first-row-agree i (omega arith))))
 
+  slack-agree : (N : Numbers) (i : ℕ) → i < T .tasks → slackOf S N i ≡ slackOf T N i
+  unfolding slackOf
+  slack-agree N i l = rw (in-force-agree i l, chain-agree N i l)
+
   accepted-agree : (N : Numbers) → accepted S N ≡ accepted T N
-  unfolding accepted slackOf
+  unfolding accepted
   accepted-agree N =
-      ap (λ (n : ℕ). all n (λ i. leZ (pos 0) (pos (inForce S i) -ℤ pos (chainBound S N i)))) (a .tasks)
-      ∙ all-ext (T .tasks) (λ i l. rw (in-force-agree i l, chain-agree N i l))
+      ap (λ (n : ℕ). all n (λ i. leZ (pos 0) (slackOf S N i))) (a .tasks)
+      ∙ all-ext (T .tasks) (λ i l. rw (slack-agree N i l))
 
   load-agree : (q : ℕ) → load (planOf S) q ≡ load (planOf T) q
   unfolding load loadOf planOf
@@ -127,6 +131,7 @@ module _ {S T : Table} (ok : Checked T) (a : Agree S T) where
         bound = λ r l. refl;
         chain = λ i l. chain-agree N i (omega (arith, a .tasks));
         deadline = λ i l. in-force-agree i (omega (arith, a .tasks));
+        slack = λ i l. slack-agree N i (omega (arith, a .tasks));
         load = load-agree;
         accepted = ap (λ (b : Bool). cond b 1 0) (accepted-agree N);
       })

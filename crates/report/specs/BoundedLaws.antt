@@ -5,6 +5,7 @@ use mathlib.Core.Bool.{true}
 use mathlib.Core.List.{List}
 use native.Mathlib.Omega.{arith}
 use borrow.Author.Tests.{le-leb}
+use lib.IntN.{pos}
 use lib.ListN.{length}
 use Rattle.facts.specs.Filled.{filled}
 use Rattle.facts.specs.FilledLaws.{getD-filled, length-filled}
@@ -16,9 +17,9 @@ use Rattle.table.specs.Plan.{planOf, inForce}
 use Rattle.table.specs.PlanLaws.{right-of}
 use Rattle.bounds.specs.declared.Bounded.{Bounded}
 use Rattle.bounds.specs.declared.Bounded.the-variants.{Accepted, Refused}
-use Rattle.bounds.specs.Bounds.{chainBound, Lists, needed, filledIn, Given, Refusing, Bounding, no-plan, too-short, no-busy-length}
+use Rattle.bounds.specs.Bounds.{chainBound, slackOf, Lists, needed, filledIn, Given, Refusing, Bounding, no-plan, too-short, no-busy-length}
 use Rattle.report.specs.LoadLaws.{load-is}
-use Rattle.report.specs.Listed.{Listing, listing, due, listed, Filled}
+use Rattle.report.specs.Listed.{Listing, listing, listed, Filled}
 use Rattle.report.specs.Report.{figures, reportOf, reportText}
 use Rattle.report.specs.ReportLaws.{Alike, report-alike, report-few}
 use Rattle.report.specs.FiguresLaws.{figures-small}
@@ -35,11 +36,11 @@ pub record Roomy (l : Lists) : Type 0 where
 -- What the report prints: the table's own lists, the periods of its n rows and what the bounds leave.
 abbrev pub bounded : Table → ℕ → List ℕ → Lists → ℕ → Listing
 bounded T n periods l answer =
-    listing n (T .tasks) (T .processors) (l .busy) (l .instances) (l .bound) (l .chain)
+    listing n (T .tasks) (T .processors) (l .busy) (l .instances) (l .bound) (l .chain) (l .slack)
     (T .period) (T .deadline) (T .processor) (T .time) periods answer
 
 -- The first n entries of a list that is filled so far are there.
-still-long : (f : ℕ → ℕ) (n m : ℕ) (l : List ℕ) → n ≤ m → m ≤ length l → n ≤ length (filled f n l)
+still-long : {A : Type 0} (f : ℕ → A) (n m : ℕ) (l : List A) → n ≤ m → m ≤ length l → n ≤ length (filled f n l)
 still-long f n m l h g = omega (arith, length-filled f n l (omega arith))
 
 module _ (T : Table) (plan : isPlan T ≡ true) where
@@ -64,7 +65,7 @@ module _ (T : Table) (plan : isPlan T ≡ true) where
 module _ (T : Table) {n : ℕ} {periods : List ℕ} (seen : Viewed T n periods) {before after : Lists} (room : Roomy before) {answer : ℕ} (g : Given T before after answer) where
   -- What the bounds leave is a plan's figures,
   bounded-alike : Alike (listed (bounded T n periods after answer)) (figures T (g .numbers))
-  unfolding listed due figures filledIn inForce
+  unfolding listed figures filledIn inForce
   bounded-alike =
       let N = g .numbers in
       rw (seen .count, g .lists)
@@ -77,6 +78,7 @@ module _ (T : Table) {n : ℕ} {periods : List ℕ} (seen : Viewed T n periods) 
         bound = λ r l. getD-filled (N .bound) (rows T) r 0 (before .bound) l;
         chain = λ i l. getD-filled (chainBound T N) (T .tasks) i 0 (before .chain) l;
         deadline = λ i l. refl;
+        slack = λ i l. getD-filled (slackOf T N) (T .tasks) i (pos 0) (before .slack) l;
         load = load-is T periods (seen .each);
         accepted = g .says;
       })
@@ -110,6 +112,7 @@ module _ (T : Table) {n : ℕ} {periods : List ℕ} (seen : Viewed T n periods) 
           two = ok .tasks .long .two;
           three = still-long (chainBound T N) (T .tasks) 32 (before .chain) (ok .tasks-most) (room .chain);
         };
+        slacks = still-long (slackOf T N) (T .tasks) 32 (before .slack) (ok .tasks-most) (room .slack);
         loads = record {
           few = ok .rows-most;
           processors = ok .row-lists .one;

@@ -4,7 +4,9 @@ use mathlib.Core.Path.{_≡_, refl, ap}
 use mathlib.Core.Bool.{Bool, true, false, cond}
 use native.Mathlib.Nat.{mul-le-mul-left}
 use native.Mathlib.Omega.{arith}
+use native.Mathlib.Decide.{decLe}
 use lib.Dec.{eqb}
+use lib.IntN.{pos, _-ℤ_, natAbs}
 use Rattle.facts.specs.Sums.{sum}
 use Rattle.facts.specs.SumsLaws.{sum-bound}
 use Rattle.facts.specs.LeastLaws.{Answer, least-unique}
@@ -17,8 +19,9 @@ use Rattle.table.specs.PlanLaws.{right-of, small-of}
 use Rattle.equations.specs.Row.{Row, work, workTo, RowBounds}
 use Rattle.equations.specs.RowLaws.{Proper, instance-answer}
 use Rattle.equations.specs.BesideLaws.{proper-of}
-use Rattle.bounds.specs.Bounds.{limit, Numbers, Analysis, chainBound, accepted}
-use Rattle.bounds.specs.BoundsLaws.{Same, chain-same, accepted-same, step-row, analysis-one}
+use Rattle.bounds.specs.Bounds.{limit, Numbers, Analysis, chainBound, slackOf, accepted}
+use Rattle.bounds.specs.BoundsLaws.{Same, chain-same, slack-same, accepted-same, step-row, analysis-one}
+use Rattle.bounds.specs.SlackLaws.{less-pos, less-neg}
 use Rattle.report.specs.Load.{load}
 use Rattle.report.specs.LoadLaws.{load-most}
 use Rattle.report.specs.Report.{figures, reportText}
@@ -42,6 +45,14 @@ in-force-most T ok i l = go (eqb (at (T .deadline) i) 0)
     go true = omega (arith, ok .tasks .each i l .period-most)
     go false = ok .tasks .each i l .deadline-most
 
+-- Two numbers differ by no more than the greater.
+less-most : (a b m : ℕ) → a ≤ m → b ≤ m → natAbs (pos a -ℤ pos b) ≤ m
+less-most a b m h l = go (decLe b a)
+  where
+    go : Dec (b ≤ a) → natAbs (pos a -ℤ pos b) ≤ m
+    go (yes p) = rw (less-pos a b p) (omega arith)
+    go (no p) = rw (less-neg a b (omega arith)) (omega arith)
+
 one-most : (b : Bool) → cond b 1 0 ≤ 1
 one-most true = omega arith
 one-most false = omega arith
@@ -63,6 +74,10 @@ module _ (T : Table) (ok : Checked T) {N : Numbers} (a : Analysis T N) where
         ok .tasks .each i l .steps-most,
       )
 
+  slack-small : (i : ℕ) → i < T .tasks → natAbs (slackOf T N i) ≤ 160000000
+  unfolding slackOf
+  slack-small i l = less-most (inForce T i) (chainBound T N i) 160000000 (in-force-most T ok i l) (chain-small i l)
+
   load-small : (q : ℕ) → load (planOf T) q ≤ 128000000000
   unfolding load planOf
   load-small q =
@@ -81,6 +96,7 @@ module _ (T : Table) (ok : Checked T) {N : Numbers} (a : Analysis T N) where
     bound = λ r l. row-small r l .1;
     chain = chain-small;
     deadline = in-force-most T ok;
+    slack = slack-small;
     load = load-small;
     accepted = one-most (accepted T N);
   }
@@ -99,6 +115,7 @@ report-one {T} {N} {N′} a b =
       bound = e .bound;
       chain = chain-same e;
       deadline = λ i l. refl;
+      slack = slack-same e;
       load = λ q. refl;
       accepted = ap (λ (x : Bool). cond x 1 0) (accepted-same e);
     })

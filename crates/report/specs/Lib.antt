@@ -1,6 +1,7 @@
 pub mod Load
 pub mod Report
 pub mod LoadLaws
+pub mod SignLaws
 pub mod Listed
 pub mod ReportLaws
 pub mod FiguresLaws

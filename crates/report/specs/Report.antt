@@ -1,71 +1,36 @@
 -- The report's text (document 01, "One plan and its report").
-use Prim.Native.Nat.{ℕ, _+_, _-_}
+use Prim.Native.Nat.{ℕ, _+_}
 use mathlib.Core.Bool.{cond}
-use mathlib.Core.List.{List, [], _∷_, _++_}
-use lib.Dec.{leb}
+use mathlib.Core.List.{List, _++_}
+use lib.IntN.{ℤ, pos, natAbs}
+use lib.Signed.{ltZ}
 use Rattle.facts.specs.Filled.{joined}
 use Rattle.table.specs.Table.{Table, rows}
 use Rattle.table.specs.Plan.{planOf, inForce}
-use Rattle.text.specs.Text.{line, minusLine}
-use Rattle.bounds.specs.Bounds.{Numbers, chainBound, accepted}
+use Rattle.text.specs.Text.{bytesOf, line, minusLine}
+use Rattle.bounds.specs.Bounds.{Numbers, chainBound, slackOf, accepted}
 use Rattle.report.specs.Load.{load}
-
--- The words of the report's keys, as bytes: report, row, busy, instances, bound, task, deadline, slack, processor, load,
--- accepted.
-abbrev pub reportWord : List ℕ
-reportWord = 114 ∷ 101 ∷ 112 ∷ 111 ∷ 114 ∷ 116 ∷ []
-
-abbrev pub rowWord : List ℕ
-rowWord = 114 ∷ 111 ∷ 119 ∷ []
-
-abbrev pub busyWord : List ℕ
-busyWord = 98 ∷ 117 ∷ 115 ∷ 121 ∷ []
-
-abbrev pub instancesWord : List ℕ
-instancesWord = 105 ∷ 110 ∷ 115 ∷ 116 ∷ 97 ∷ 110 ∷ 99 ∷ 101 ∷ 115 ∷ []
-
-abbrev pub boundWord : List ℕ
-boundWord = 98 ∷ 111 ∷ 117 ∷ 110 ∷ 100 ∷ []
-
-abbrev pub taskWord : List ℕ
-taskWord = 116 ∷ 97 ∷ 115 ∷ 107 ∷ []
-
-abbrev pub deadlineWord : List ℕ
-deadlineWord = 100 ∷ 101 ∷ 97 ∷ 100 ∷ 108 ∷ 105 ∷ 110 ∷ 101 ∷ []
-
-abbrev pub slackWord : List ℕ
-slackWord = 115 ∷ 108 ∷ 97 ∷ 99 ∷ 107 ∷ []
-
-abbrev pub processorWord : List ℕ
-processorWord = 112 ∷ 114 ∷ 111 ∷ 99 ∷ 101 ∷ 115 ∷ 115 ∷ 111 ∷ 114 ∷ []
-
-abbrev pub loadWord : List ℕ
-loadWord = 108 ∷ 111 ∷ 97 ∷ 100 ∷ []
-
-abbrev pub acceptedWord : List ℕ
-acceptedWord = 97 ∷ 99 ∷ 99 ∷ 101 ∷ 112 ∷ 116 ∷ 101 ∷ 100 ∷ []
 
 -- For each row its number, D, M and bound.
 unfoldable pub rowLines : ℕ → ℕ → ℕ → ℕ → List ℕ
 rowLines row busy instances bound =
-    line rowWord row ++ line busyWord busy ++ line instancesWord instances ++ line boundWord bound
+    line (bytesOf "row") row ++ line (bytesOf "busy") busy ++ line (bytesOf "instances") instances ++ line (bytesOf "bound") bound
 
--- The slack of a bound against a deadline, with a minus sign if below zero.
-unfoldable pub slackLine : ℕ → ℕ → List ℕ
-slackLine deadline bound =
-    cond (leb bound deadline) (line slackWord (deadline - bound)) (minusLine slackWord (bound - deadline))
+-- The slack, with "a minus sign if below zero".
+unfoldable pub slackLine : ℤ → List ℕ
+slackLine slack = cond (ltZ slack (pos 0)) (minusLine (bytesOf "slack") (natAbs slack)) (line (bytesOf "slack") (natAbs slack))
 
 -- For each task its number, bound, deadline in force and slack.
-unfoldable pub taskLines : ℕ → ℕ → ℕ → List ℕ
-taskLines task bound deadline =
-    line taskWord task ++ line boundWord bound ++ line deadlineWord deadline ++ slackLine deadline bound
+unfoldable pub taskLines : ℕ → ℕ → ℕ → ℤ → List ℕ
+taskLines task bound deadline slack =
+    line (bytesOf "task") task ++ line (bytesOf "bound") bound ++ line (bytesOf "deadline") deadline ++ slackLine slack
 
 -- For each processor its number and load.
 unfoldable pub processorLines : ℕ → ℕ → List ℕ
-processorLines processor carried = line processorWord processor ++ line loadWord carried
+processorLines processor carried = line (bytesOf "processor") processor ++ line (bytesOf "load") carried
 
--- What a report prints: D, M and bound of each row, and bound and deadline in force of each task, both counted from 0; the
--- load of each processor, by its number; and 1 if the plan is accepted, else 0.
+-- What a report prints: D, M and bound of each row, and bound, deadline in force and slack of each task, both counted from
+-- 0; the load of each processor, by its number; and 1 if the plan is accepted, else 0.
 pub record Figures : Type 0 where
   pub rows : ℕ
   pub tasks : ℕ
@@ -75,17 +40,18 @@ pub record Figures : Type 0 where
   pub bound : ℕ → ℕ
   pub chain : ℕ → ℕ
   pub deadline : ℕ → ℕ
+  pub slack : ℕ → ℤ
   pub load : ℕ → ℕ
   pub accepted : ℕ
 
 -- The report of these figures: `report=1`, rows, tasks, processors, `accepted`.
 unfoldable pub reportOf : Figures → List ℕ
 reportOf F =
-    line reportWord 1
+    line (bytesOf "report") 1
     ++ joined (F .rows) (λ r. rowLines (r + 1) (F .busy r) (F .instances r) (F .bound r))
-    ++ joined (F .tasks) (λ i. taskLines (i + 1) (F .chain i) (F .deadline i))
+    ++ joined (F .tasks) (λ i. taskLines (i + 1) (F .chain i) (F .deadline i) (F .slack i))
     ++ joined (F .processors) (λ q. processorLines (q + 1) (F .load (q + 1)))
-    ++ line acceptedWord (F .accepted)
+    ++ line (bytesOf "accepted") (F .accepted)
 
 -- The figures of a plan with the numbers of its rows.
 unfoldable pub figures : Table → Numbers → Figures
@@ -98,6 +64,7 @@ figures T N = record {
   bound = N .bound;
   chain = chainBound T N;
   deadline = inForce T;
+  slack = slackOf T N;
   load = load (planOf T);
   accepted = cond (accepted T N) 1 0;
 }

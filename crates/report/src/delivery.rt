@@ -32,6 +32,7 @@ pub(crate) fn deliver_report(
     instances: &[u64],
     bound: &[u64],
     chains: &[u64],
+    slack: &[i64],
     period: &[u64],
     deadline: &[u64],
     processor: &[u64],
@@ -39,10 +40,10 @@ pub(crate) fn deliver_report(
     periods: &[u64],
     accepted: u64,
 ) -> Reporting
-    requires { ⌜ Filled (listing rows tasks processors (now busy) (now instances) (now bound) (now chains) (now period) (now deadline) (now processor) (now cost) (now periods) accepted) ⌝ }
-    requires { ⌜ length (reportOf (listed (listing rows tasks processors (now busy) (now instances) (now bound) (now chains) (now period) (now deadline) (now processor) (now cost) (now periods) accepted))) ≤ 10240 ⌝ }
+    requires { ⌜ Filled (listing rows tasks processors (now busy) (now instances) (now bound) (now chains) (now slack) (now period) (now deadline) (now processor) (now cost) (now periods) accepted) ⌝ }
+    requires { ⌜ length (reportOf (listed (listing rows tasks processors (now busy) (now instances) (now bound) (now chains) (now slack) (now period) (now deadline) (now processor) (now cost) (now periods) accepted))) ≤ 10240 ⌝ }
     ensures { λ r. ⌜ _≡_ {A = ReportOutcome} (record { answer = r; out = now (out .exit) })
-        (delivered (reportOf (listed (listing rows tasks processors (now (busy .entry)) (now (instances .entry)) (now (bound .entry)) (now (chains .entry)) (now (period .entry)) (now (deadline .entry)) (now (processor .entry)) (now (cost .entry)) (now (periods .entry)) accepted))) (now (out .entry))) ⌝ }
+        (delivered (reportOf (listed (listing rows tasks processors (now (busy .entry)) (now (instances .entry)) (now (bound .entry)) (now (chains .entry)) (now (slack .entry)) (now (period .entry)) (now (deadline .entry)) (now (processor .entry)) (now (cost .entry)) (now (periods .entry)) accepted))) (now (out .entry))) ⌝ }
 {
     let mut text = [0u8; 10240];
     let end = append_report(
@@ -54,6 +55,7 @@ pub(crate) fn deliver_report(
         instances,
         bound,
         chains,
+        slack,
         period,
         deadline,
         processor,

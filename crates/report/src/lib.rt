@@ -117,6 +117,7 @@ fn report_plan(
             &instances,
             &bounds,
             &chains,
+            &slack,
             period,
             deadline,
             processor,

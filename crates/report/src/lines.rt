@@ -3,6 +3,7 @@
 use text::append_line;
 use text::append_minus_line;
 ghost use mathlib.Core.Path.{_≡_};
+ghost use lib.IntN.{natAbs};
 ghost use Rattle.text.specs.Text.{Written, appended};
 ghost use Rattle.report.specs.Report.{processorLines, rowLines, slackLine, taskLines};
 
@@ -24,23 +25,41 @@ pub(crate) fn append_row(
 }
 
 // Appends a task's number, bound, deadline in force and slack.
-pub(crate) fn append_task(out: &mut [u8], at: usize, task: u64, bound: u64, deadline: u64) -> usize
-    ensures { λ r. ⌜ _≡_ {A = Written} (record { list = now (out .exit); end = r }) (appended (taskLines task bound deadline) (now (out .entry)) at) ⌝ }
+pub(crate) fn append_task(
+    out: &mut [u8],
+    at: usize,
+    task: u64,
+    bound: u64,
+    deadline: u64,
+    slack: i64,
+) -> usize
+    ensures { λ r. ⌜ _≡_ {A = Written} (record { list = now (out .exit); end = r }) (appended (taskLines task bound deadline slack) (now (out .entry)) at) ⌝ }
 {
     let behind_task = append_line(out, at, b"task", task);
     let behind_bound = append_line(out, behind_task, b"bound", bound);
     let behind_deadline = append_line(out, behind_bound, b"deadline", deadline);
-    append_slack(out, behind_deadline, deadline, bound)
+    append_slack(out, behind_deadline, slack)
 }
 
-// Appends the slack, the deadline less the bound: printed from the two, so that no number needs a sign.
-fn append_slack(out: &mut [u8], at: usize, deadline: u64, bound: u64) -> usize
-    ensures { λ r. ⌜ _≡_ {A = Written} (record { list = now (out .exit); end = r }) (appended (slackLine deadline bound) (now (out .entry)) at) ⌝ }
+// Appends the slack with its sign.
+fn append_slack(out: &mut [u8], at: usize, slack: i64) -> usize
+    ensures { λ r. ⌜ _≡_ {A = Written} (record { list = now (out .exit); end = r }) (appended (slackLine slack) (now (out .entry)) at) ⌝ }
 {
-    if bound <= deadline {
-        append_line(out, at, b"slack", deadline - bound)
+    if slack < 0 {
+        append_minus_line(out, at, b"slack", magnitude(slack))
     } else {
-        append_minus_line(out, at, b"slack", bound - deadline)
+        append_line(out, at, b"slack", magnitude(slack))
+    }
+}
+
+// The slack without its sign. The least signed number has no opposite, so a slack below zero is first taken from -1.
+fn magnitude(slack: i64) -> u64
+    ensures { λ r. ⌜ r ≡ natAbs slack ⌝ }
+{
+    if 0 <= slack {
+        slack as u64
+    } else {
+        (-1 - slack) as u64 + 1
     }
 }
 

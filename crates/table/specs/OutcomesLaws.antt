@@ -6,6 +6,7 @@ use mathlib.Core.List.{List}
 use Rattle.facts.specs.OutcomesLaws.{equation-one}
 use Rattle.table.specs.declared.ranges.Range.{Range}
 use Rattle.table.specs.declared.refusal.Refusal.{Refusal}
+use Rattle.table.specs.Plan.{deadlineFrom}
 use Rattle.table.specs.Ranges.{rangeOf, inRange}
 use Rattle.table.specs.Refusals.{numberOf, placeOf}
 use Rattle.table.specs.Table.{Table, isPlan}
@@ -22,6 +23,10 @@ number-of-one refusal = equation-one
 
 pub place-of-one : (refusal : Refusal) {x y : ℕ} → x ≡ placeOf refusal → y ≡ placeOf refusal → x ≡ y
 place-of-one refusal = equation-one
+
+pub in-force-one :
+    (period deadline : ℕ) {x y : ℕ} → x ≡ deadlineFrom period deadline → y ≡ deadlineFrom period deadline → x ≡ y
+in-force-one period deadline = equation-one
 
 pub is-plan-one : (T : Table) {x y : Bool} → x ≡ isPlan T → y ≡ isPlan T → x ≡ y
 is-plan-one T = equation-one

@@ -22,9 +22,14 @@ taskOf T r = sumIf (T .tasks) (λ i. leb (firstRow T (suc i)) r) (λ i. 1)
 unfoldable pub cost : Table → ℕ → ℕ
 cost T r = at (T .time) r
 
--- The deadline in force of task i: its deadline, and its period where that is 0 (document 01: "`deadline=0` means ..").
+-- The deadline in force of a task with this period and this deadline (document 01, "The plan on paper": "`deadline=0`
+-- means the deadline in force is the period").
+abbrev pub deadlineFrom : ℕ → ℕ → ℕ
+deadlineFrom period deadline = cond (eqb deadline 0) period deadline
+
+-- The deadline in force of task i, counted from 0.
 unfoldable pub inForce : Table → ℕ → ℕ
-inForce T i = cond (eqb (at (T .deadline) i) 0) (at (T .period) i) (at (T .deadline) i)
+inForce T i = deadlineFrom (at (T .period) i) (at (T .deadline) i)
 
 -- The table's rows: a row has its task's period, and is first where its task's rows begin.
 unfoldable pub planOf : Table → Plan

@@ -1,9 +1,16 @@
 -- Text as bytes, and how it is appended to a list.
+use Prim.Native.Char.{code}
 use Prim.Native.Nat.{ℕ, zero, suc, _+_, _/_, _%_}
+use Prim.Native.String.{String, [] as end, _∷_ as _then_}
 use mathlib.Core.Bool.{cond}
 use mathlib.Core.List.{List, [], _∷_, _++_}
 use lib.Dec.{ltb}
 use lib.ListN.{length, set}
+
+-- The bytes of a text, which has only characters of one byte.
+abbrev pub bytesOf : String → List ℕ
+bytesOf end = []
+bytesOf (c then s) = code c ∷ bytesOf s
 
 -- The decimal digits of n as bytes, the most significant first; at most k of them, the last ones.
 unfoldable pub digits : ℕ → ℕ → List ℕ

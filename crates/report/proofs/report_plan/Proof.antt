@@ -39,12 +39,17 @@ slice-aggregate-deliver-report-3 c = search needs
 slice-aggregate-deliver-report-4 : tie.Need-slice-aggregate-deliver-report-4
 slice-aggregate-deliver-report-4 c = search needs
 
+slice-aggregate-deliver-report-5 : tie.Need-slice-aggregate-deliver-report-5
+slice-aggregate-deliver-report-5 c = search needs
+
 deliver-report-requires : tie.Need-deliver-report-requires
 deliver-report-requires c κs =
-    let a = c .before .before .before .before .before .before .before .before .before .before .before .before .before .before .before .before .before .before .before .before .before .before .before .before .before .before .before .args in
+    let start = c .before .before .before .before .before .before .before .before .before .before .before .before .before .before .before .before .before .before .before .before .before .before .before .before .before .before .before .before in
+    let a = start .args in
     let T = tableOf (a .processors) (a .tasks) (a .period .now) (a .deadline .now) (a .steps .now) (a .processor .now) (a .priority .now) (a .time .now) in
-    let e = c .before .before .before .before .before .before .accepted .given .1 in
-    (bound-filled T (c .before .before .before .before .before .before .before .before .before .before .before .before .before .before .before .before .before .before .before .before .before .before .before .before .before .before .before .pre) _ _ (omega arith) (c .before .before .before .before .before .before .before .before .before .before .before .before .before .bound .ensures) e, omega (arith, bound-few T (c .before .before .before .before .before .before .before .before .before .before .before .before .before .before .before .before .before .before .before .before .before .before .before .before .before .before .before .pre) _ _ (omega arith) (c .before .before .before .before .before .before .before .before .before .before .before .before .before .bound .ensures) e))
+    let left = c .before .before .before .before .before .before .before .before .before .before .before .before .before .before .bound .ensures in
+    let e = c .before .before .before .before .before .before .before .accepted .given .1 in
+    (bound-filled T (start .pre) _ _ (omega arith) left e, omega (arith, bound-few T (start .pre) _ _ (omega arith) left e))
 
 enum-known-refusal : tie.Need-enum-known-refusal
 enum-known-refusal c = search needs
@@ -54,15 +59,20 @@ same-length c = search needs
 
 returns : tie.Need-returns
 returns c =
-    let a = c .before .before .before .before .before .before .before .before .before .before .before .before .before .before .before .before .before .before .before .before .before .before .before .before .before .before .before .before .before .before .args in
+    let start = c .before .before .before .before .before .before .before .before .before .before .before .before .before .before .before .before .before .before .before .before .before .before .before .before .before .before .before .before .before .before .before in
+    let a = start .args in
     let T = tableOf (a .processors) (a .tasks) (a .period .now) (a .deadline .now) (a .steps .now) (a .processor .now) (a .priority .now) (a .time .now) in
-    bound-gives T (c .before .before .before .before .before .before .before .before .before .before .before .before .before .before .before .before .before .before .before .before .before .before .before .before .before .before .before .before .before .before .pre) _ _ (omega arith) (c .before .before .before .before .before .before .before .before .before .before .before .before .before .before .before .before .bound .ensures) (c .before .before .before .before .before .before .before .before .before .accepted .given .1) (a .out .now) (c .before .before .deliver-report .ensures)
+    let left = c .before .before .before .before .before .before .before .before .before .before .before .before .before .before .before .before .before .bound .ensures in
+    let e = c .before .before .before .before .before .before .before .before .before .before .accepted .given .1 in
+    bound-gives T (start .pre) _ _ (omega arith) left e (a .out .now) (c .before .before .deliver-report .ensures)
 
 returns-2 : tie.Need-returns-2
 returns-2 c =
-    let a = c .before .before .before .before .before .before .before .before .before .before .before .before .before .before .before .before .before .before .before .before .before .before .args in
+    let start = c .before .before .before .before .before .before .before .before .before .before .before .before .before .before .before .before .before .before .before .before .before .before in
+    let a = start .args in
     let T = tableOf (a .processors) (a .tasks) (a .period .now) (a .deadline .now) (a .steps .now) (a .processor .now) (a .priority .now) (a .time .now) in
-    bound-refuses T (c .before .before .before .before .before .before .before .before .before .before .before .before .before .before .before .before .before .before .before .before .before .before .pre) _ _ (omega arith) (c .before .before .before .before .before .before .before .before .bound .ensures) (a .out .now) (c .before .refusal .given .1)
+    let left = c .before .before .before .before .before .before .before .before .bound .ensures in
+    bound-refuses T (start .pre) _ _ (omega arith) left (a .out .now) (c .before .refusal .given .1)
 
 pub report-plan-spec : {M : Type 1} → statement M
 report-plan-spec =
@@ -79,6 +89,7 @@ report-plan-spec =
     slice-aggregate-deliver-report-2
     slice-aggregate-deliver-report-3
     slice-aggregate-deliver-report-4
+    slice-aggregate-deliver-report-5
     deliver-report-requires
     enum-known-refusal
     same-length

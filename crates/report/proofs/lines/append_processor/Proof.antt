@@ -1,7 +1,7 @@
 -- `report::lines::append_processor` meets its contract: two lines one after the other are one text.
-use Rattle.text.specs.Text.{line}
+use Rattle.text.specs.Text.{bytesOf, line}
 use Rattle.text.specs.TextLaws.{appended-then}
-use Rattle.report.specs.Report.{processorLines, processorWord, loadWord}
+use Rattle.report.specs.Report.{processorLines}
 use borrow.Author.Needs.{needs}
 use Rattle.report.proofs.lines.append_processor.Statement.{statement}
 use Rattle.report.proofs.lines.append_processor.Tie as tie
@@ -26,7 +26,7 @@ unfolding processorLines
 returns c =
     let processor = c .before .before .before .before .before .before .before in
     let a = c .before .before .before .before .before .before .before .before .before .before .before .args in
-    appended-then (line processorWord (a .processor)) (line loadWord (a .load)) (a .out .now) (a .at) (processor .append-line .ensures)
+    appended-then (line (bytesOf "processor") (a .processor)) (line (bytesOf "load") (a .load)) (a .out .now) (a .at) (processor .append-line .ensures)
     (c .before .before .append-line2 .ensures)
 
 pub append-processor-spec : {M : Type 1} → statement M

@@ -1,7 +1,7 @@
 -- `report::lines::append_row` meets its contract: four lines one after the other are one text.
-use Rattle.text.specs.Text.{line}
+use Rattle.text.specs.Text.{bytesOf, line}
 use Rattle.text.specs.TextLaws.{appended-then}
-use Rattle.report.specs.Report.{rowLines, rowWord, busyWord, instancesWord, boundWord}
+use Rattle.report.specs.Report.{rowLines}
 use mathlib.Core.List.{_++_}
 use borrow.Author.Needs.{needs}
 use Rattle.report.proofs.lines.append_row.Statement.{statement}
@@ -38,10 +38,10 @@ returns : tie.Need-returns
 unfolding rowLines
 returns c =
     let a = c .before .before .before .before .before .before .before .before .before .before .before .before .before .before .before .before .before .before .before .before .before .args in
-    let row = line rowWord (a .row) in
-    let busy = line busyWord (a .busy) in
-    let instances = line instancesWord (a .instances) in
-    appended-then (row ++ busy ++ instances) (line boundWord (a .bound)) (a .out .now) (a .at)
+    let row = line (bytesOf "row") (a .row) in
+    let busy = line (bytesOf "busy") (a .busy) in
+    let instances = line (bytesOf "instances") (a .instances) in
+    appended-then (row ++ busy ++ instances) (line (bytesOf "bound") (a .bound)) (a .out .now) (a .at)
     (appended-then (row ++ busy) instances (a .out .now) (a .at)
     (appended-then row busy (a .out .now) (a .at) (c .before .before .before .before .before .before .before .before .before .before .before .before .before .before .before .before .before .append-line .ensures) (c .before .before .before .before .before .before .before .before .before .before .before .before .append-line2 .ensures))
     (c .before .before .before .before .before .before .before .append-line3 .ensures))

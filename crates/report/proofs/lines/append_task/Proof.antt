@@ -1,8 +1,10 @@
 -- `report::lines::append_task` meets its contract: four lines one after the other are one text.
-use Rattle.text.specs.Text.{line}
+use Rattle.text.specs.Text.{bytesOf, line}
 use Rattle.text.specs.TextLaws.{appended-then}
-use Rattle.report.specs.Report.{taskLines, taskWord, boundWord, deadlineWord, slackLine}
+use Rattle.report.specs.Report.{taskLines, slackLine}
 use mathlib.Core.List.{_++_}
+use mir.Syntax.{w64}
+use mir.ValLaws.{toZ-ofZ}
 use borrow.Author.Needs.{needs}
 use Rattle.report.proofs.lines.append_task.Statement.{statement}
 use Rattle.report.proofs.lines.append_task.Tie as tie
@@ -34,15 +36,17 @@ same-length c = search needs
 returns : tie.Need-returns
 unfolding taskLines
 returns c =
-    let a = c .before .before .before .before .before .before .before .before .before .before .before .before .before .before .before .before .before .before .before .before .args in
-    let task = line taskWord (a .task) in
-    let bound = line boundWord (a .bound) in
-    let deadline = line deadlineWord (a .deadline) in
-    appended-then (task ++ bound ++ deadline) (slackLine (a .deadline) (a .bound)) (a .out .now) (a .at)
+    let start = c .before .before .before .before .before .before .before .before .before .before .before .before .before .before .before .before .before .before .before .before in
+    let a = start .args in
+    let held = toZ-ofZ w64 (a .slack) (start .fits .slack) in
+    let task = line (bytesOf "task") (a .task) in
+    let bound = line (bytesOf "bound") (a .bound) in
+    let deadline = line (bytesOf "deadline") (a .deadline) in
+    appended-then (task ++ bound ++ deadline) (slackLine (a .slack)) (a .out .now) (a .at)
     (appended-then (task ++ bound) deadline (a .out .now) (a .at)
     (appended-then task bound (a .out .now) (a .at) (c .before .before .before .before .before .before .before .before .before .before .before .before .before .before .before .before .append-line .ensures) (c .before .before .before .before .before .before .before .before .before .before .before .append-line2 .ensures))
     (c .before .before .before .before .before .before .append-line3 .ensures))
-    (c .before .before .append-slack .ensures)
+    (rw held at (c .before .before .append-slack .ensures))
 
 pub append-task-spec : {M : Type 1} → statement M
 append-task-spec =
