@@ -27,7 +27,6 @@ pub mod Due
 pub mod DueLaws
 pub mod Reader
 pub mod ReaderLaws
-pub mod PartLaws
 pub mod Writer
 pub mod WriterLaws
 pub mod CallsLaws
