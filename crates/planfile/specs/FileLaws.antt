@@ -9,7 +9,7 @@ use lib.ListN.{length, drop, length-drop}
 use Rattle.table.specs.Table.{Table, firstRow, rows, isPlan}
 use Rattle.planfile.specs.Words.{lineOf}
 use Rattle.planfile.specs.Draft.{Draft, noKey, own, advanced}
-use Rattle.planfile.specs.DraftLaws.{Shape, EachKey, by-key, own-most, linesSoFar}
+use Rattle.planfile.specs.DraftLaws.{Shape, EachKey, by-key, own-most, linesSoFar, draftOf, where-due, due-there}
 use Rattle.planfile.specs.File.{valueFor, linesFrom, linesOf, fileOf}
 use Rattle.planfile.specs.Reading.{mostBytes}
 use Rattle.planfile.specs.Verdicts.{RightLine, RightLines}
@@ -19,7 +19,7 @@ use Rattle.planfile.specs.LineTextLaws.{written-stands, written-rest}
 use Rattle.planfile.specs.LinesLaws.{lines-shape, lines-count}
 use Rattle.planfile.specs.SizeLaws.{value-takes, lines-bytes, whole-bytes}
 use Rattle.planfile.specs.PlanValues.{ValuesRight, values-right}
-use Rattle.planfile.specs.FrontLaws.{draftOf, where-due, due-there, PartOf, part-blank}
+use Rattle.planfile.specs.FrontLaws.{PartOf, part-blank}
 use Rattle.planfile.specs.NextLineLaws.{ahead, asked-part, value-fits, value-few, part-next}
 
 -- Behind the last line there are as many lines as the table has,

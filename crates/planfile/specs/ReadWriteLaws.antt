@@ -25,8 +25,8 @@ use Rattle.planfile.specs.Verdicts.{Verdict}
 use Rattle.planfile.specs.VerdictsLaws.{verdict, verdict-held}
 use Rattle.planfile.specs.FileLaws.{file-most}
 use Rattle.planfile.specs.Draft.{noKey}
-use Rattle.planfile.specs.DraftLaws.{Shape}
-use Rattle.planfile.specs.FrontLaws.{draftOf, PartOf}
+use Rattle.planfile.specs.DraftLaws.{Shape, draftOf}
+use Rattle.planfile.specs.FrontLaws.{PartOf}
 use Rattle.planfile.specs.RoundTrip.{reads-back, read-is, held-shape}
 use Rattle.planfile.specs.LongerLaws.{longer-plan, longer-file, laid-part}
 use Rattle.planfile.specs.Trimmed.{trimmed}

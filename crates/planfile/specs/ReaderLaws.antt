@@ -26,7 +26,7 @@ use Rattle.planfile.specs.declared.read.Found.{Found}
 use Rattle.planfile.specs.declared.read.Found.the-variants as found
 use Rattle.planfile.specs.declared.read.Reading.the-variants.{Read, Refused}
 use Rattle.planfile.specs.Draft.{Draft, noKey, blank, own, added, placed, advanced}
-use Rattle.planfile.specs.DraftLaws.{Shape, Accepted, at-key, shape-blank, shape-next}
+use Rattle.planfile.specs.DraftLaws.{Shape, Accepted, due-there, shape-blank, shape-next}
 use Rattle.planfile.specs.Due.{dueOf, begun, ownNumber, past}
 use Rattle.planfile.specs.DueLaws.{Few, due-blank, due-advanced, due-few, value-few}
 use Rattle.planfile.specs.Line.{lineAt}
@@ -151,14 +151,14 @@ slots : (d : Draft) (l : Lists) → Shape d → Sized l → Slots (dueOf d) l
 unfolding dueOf
 slots d l s z = record {
   tasks = record {
-    period-has = λ e. (let k = at-key d e s in omega (arith, k .task-most, z .period));
-    deadline-has = λ e. (let k = at-key d e s in omega (arith, k .task-most, z .deadline));
-    steps-has = λ e. (let k = at-key d e s in omega (arith, k .task-most, z .steps));
+    period-has = λ e. (let k = due-there Shape d _ e s in omega (arith, k .task-most, z .period));
+    deadline-has = λ e. (let k = due-there Shape d _ e s in omega (arith, k .task-most, z .deadline));
+    steps-has = λ e. (let k = due-there Shape d _ e s in omega (arith, k .task-most, z .steps));
   };
   rows = record {
-    processor-has = λ e. (let k = at-key d e s in omega (arith, k .row-due, k .row-most, z .processor));
-    priority-has = λ e. (let k = at-key d e s in omega (arith, k .row-due, k .row-most, z .priority));
-    time-has = λ e. (let k = at-key d e s in omega (arith, k .row-due, k .row-most, z .time));
+    processor-has = λ e. (let k = due-there Shape d _ e s in omega (arith, k .row-due, k .row-most, z .processor));
+    priority-has = λ e. (let k = due-there Shape d _ e s in omega (arith, k .row-due, k .row-most, z .priority));
+    time-has = λ e. (let k = due-there Shape d _ e s in omega (arith, k .row-due, k .row-most, z .time));
   };
 }
 
@@ -192,15 +192,15 @@ kept-next d v l s z k =
     let room = slots d l s z in
     record {
       period = front-next (eqb (d .key) periodKey) _ v _ _ (k .period)
-          (λ e. (let q = eqb-true (d .key) periodKey e in (omega (arith, at-key d q s .period), room .tasks .period-has q)));
+          (λ e. (let q = eqb-true (d .key) periodKey e in (omega (arith, due-there Shape d _ q s .period), room .tasks .period-has q)));
       deadline = front-next (eqb (d .key) deadlineKey) _ v _ _ (k .deadline)
-          (λ e. (let q = eqb-true (d .key) deadlineKey e in (omega (arith, at-key d q s .deadline), room .tasks .deadline-has q)));
+          (λ e. (let q = eqb-true (d .key) deadlineKey e in (omega (arith, due-there Shape d _ q s .deadline), room .tasks .deadline-has q)));
       steps = front-next (eqb (d .key) stepsKey) _ v _ _ (k .steps)
           (λ e. (let q = eqb-true (d .key) stepsKey e in (refl, room .tasks .steps-has q)));
       processor = front-next (eqb (d .key) processorKey) _ v _ _ (k .processor)
-          (λ e. (let q = eqb-true (d .key) processorKey e in (omega (arith, at-key d q s .processor), room .rows .processor-has q)));
+          (λ e. (let q = eqb-true (d .key) processorKey e in (omega (arith, due-there Shape d _ q s .processor), room .rows .processor-has q)));
       priority = front-next (eqb (d .key) priorityKey) _ v _ _ (k .priority)
-          (λ e. (let q = eqb-true (d .key) priorityKey e in (omega (arith, at-key d q s .priority), room .rows .priority-has q)));
+          (λ e. (let q = eqb-true (d .key) priorityKey e in (omega (arith, due-there Shape d _ q s .priority), room .rows .priority-has q)));
       time = front-next (eqb (d .key) timeKey) _ v _ _ (k .time)
           (λ e. (let q = eqb-true (d .key) timeKey e in (refl, room .rows .time-has q)));
     }
@@ -262,7 +262,7 @@ end-found :
     → table (d .table) ≡ foundIn (found.Table (record { processors = u .processors; tasks = u .tasks }) (u .row)) l
 unfolding foundIn dueOf
 end-found d u l e s q k =
-    let z = at-key d q s in
+    let z = due-there Shape d _ q s in
     let n : d .table .tasks ≡ length (d .table .steps) = omega (arith, z .task-due, z .task-left) in
     rw e (ap (λ (T : Table). table T)
     (kept-table (d .table) l (length (d .table .time)) k (omega (arith, n, z .period)) (omega (arith, n, z .deadline)) n

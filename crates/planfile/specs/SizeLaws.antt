@@ -13,8 +13,7 @@ use Rattle.text.specs.TextLaws.{decimal-few}
 use Rattle.planfile.specs.Words.{words, word, lineOf}
 use Rattle.planfile.specs.Draft.{Draft, noKey, own, added, placed, following, advanced}
 use Rattle.planfile.specs.Reading.{mostBytes}
-use Rattle.planfile.specs.DraftLaws.{Shape, EachKey, by-key, byKey, none-in-range, own-most}
-use Rattle.planfile.specs.FrontLaws.{draftOf, following-time}
+use Rattle.planfile.specs.DraftLaws.{Shape, EachKey, by-key, byKey, none-in-range, own-most, draftOf, after-row}
 use Rattle.planfile.specs.LineTextLaws.{length-lineOf}
 use Rattle.planfile.specs.LinesLaws.{lines-shape}
 use Rattle.planfile.specs.Verdicts.{RightLines}
@@ -75,9 +74,9 @@ grows-time : Grows timeKey
 unfolding bytesSoFar mostLine mostDigits word words advanced placed added
 grows-time T v h =
     let one-more = length-append (T .time) (v ∷ []) in
-    following-time (placed timeKey v T)
+    after-row (placed timeKey v T)
     (λ key. bytesSoFar (draftOf timeKey T) + mostLine timeKey ≡ bytesSoFar (draftOf key (placed timeKey v T)))
-    (omega arith) (omega arith) (omega arith)
+    (λ r. omega arith) (λ r t. omega arith) (λ r t. omega arith)
 
 grows : EachKey Grows
 unfolding bytesSoFar mostLine mostDigits word words advanced placed added following

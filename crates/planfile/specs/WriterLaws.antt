@@ -16,12 +16,12 @@ use Rattle.table.specs.declared.refusal.Refusal.the-variants.{NotAPlan, TooShor
 use Rattle.planfile.specs.declared.write.Writing.the-variants.{Bytes, Refused}
 use Rattle.planfile.specs.Words.{lineOf}
 use Rattle.planfile.specs.Draft.{Draft, noKey, blank, own, advanced}
-use Rattle.planfile.specs.DraftLaws.{Shape, EachKey, by-key, value-most, own-most, shape-blank, shape-next, linesSoFar, lines-next}
+use Rattle.planfile.specs.DraftLaws.{Shape, EachKey, by-key, value-most, own-most, shape-blank, shape-next, linesSoFar, lines-next, draftOf, due-there}
 use Rattle.planfile.specs.Due.{dueOf, begun, past}
 use Rattle.planfile.specs.DueLaws.{Few, due-blank, due-advanced, due-few}
 use Rattle.planfile.specs.File.{valueFor, linesFrom, linesOf, fileOf}
 use Rattle.planfile.specs.PlanValues.{ValuesRight, values-right}
-use Rattle.planfile.specs.FrontLaws.{draftOf, due-there, PartOf, part-blank}
+use Rattle.planfile.specs.FrontLaws.{PartOf, part-blank}
 use Rattle.planfile.specs.NextLineLaws.{Ahead, ahead, value-fits, value-few, part-next}
 use Rattle.planfile.specs.FileLaws.{lines-left, lines-all, file-most}
 use Rattle.planfile.specs.Reading.{mostBytes, listsOf}
@@ -32,8 +32,8 @@ use Rattle.planfile.specs.Writer.{valuesDue, valueDue}
 -- The value of the line due is the one that follows the draft.
 abbrev Agrees : ℕ → Type 0
 Agrees key =
-    (T U : Table) → Shape (record { key = key; table = U }) → key < noKey
-    → valueFor T (record { key = key; table = U }) ≡ valueDue T (dueOf (record { key = key; table = U }))
+    (T U : Table) → Shape (draftOf key U) → key < noKey
+    → valueFor T (draftOf key U) ≡ valueDue T (dueOf (draftOf key U))
 
 agrees : EachKey Agrees
 unfolding valueFor valueDue valuesDue dueOf
