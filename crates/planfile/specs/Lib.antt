@@ -26,6 +26,8 @@ pub mod LineLaws
 pub mod Due
 pub mod DueLaws
 pub mod Reader
+pub mod JudgeLaws
+pub mod StoreLaws
 pub mod ReaderLaws
 pub mod Writer
 pub mod WriterLaws

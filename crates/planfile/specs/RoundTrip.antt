@@ -110,9 +110,6 @@ one-plan S T a b e =
 pub held-most : (file : List ℕ) (T : Table) → held file ≡ table T → length file ≤ mostBytes
 held-most file T e = let w = read-is file T e in rw (w .1) (file-most T (w .0))
 
--- What a list holds past the table makes no difference to its being a plan, nor to its file.
-pub trimmed-plan : (T : Table) → isPlan T ≡ true → isPlan (trimmed T) ≡ true
-trimmed-plan T plan = read-is (fileOf T) (trimmed T) (reads-back T plan) .0
-
+-- What a list holds past the table makes no difference to its file.
 pub trimmed-file : (T : Table) → isPlan T ≡ true → fileOf (trimmed T) ≡ fileOf T
 trimmed-file T plan = sym (read-is (fileOf T) (trimmed T) (reads-back T plan) .1)

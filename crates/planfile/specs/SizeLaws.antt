@@ -9,7 +9,7 @@ use Rattle.table.specs.Keys.{planKey, processorsKey, tasksKey, taskKey, periodK
 use Rattle.table.specs.Ranges.{inRange, rangeOf, ranges}
 use Rattle.table.specs.RangesLaws.{within-of}
 use Rattle.table.specs.Table.{Table}
-use Rattle.text.specs.TextLaws.{decimal-few}
+use Rattle.text.specs.NumeralLaws.{decimal-few}
 use Rattle.planfile.specs.Words.{words, word, lineOf}
 use Rattle.planfile.specs.Draft.{Draft, noKey, own, added, placed, following, advanced}
 use Rattle.planfile.specs.Reading.{mostBytes}

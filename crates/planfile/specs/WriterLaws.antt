@@ -25,7 +25,7 @@ use Rattle.planfile.specs.FrontLaws.{PartOf, part-blank}
 use Rattle.planfile.specs.NextLineLaws.{Ahead, ahead, value-fits, value-few, part-next}
 use Rattle.planfile.specs.FileLaws.{lines-left, lines-all, file-most}
 use Rattle.planfile.specs.Reading.{mostBytes, listsOf}
-use Rattle.planfile.specs.ReaderLaws.{Slots}
+use Rattle.planfile.specs.StoreLaws.{Slots}
 use Rattle.planfile.specs.Writing.{WriteOutcome, write}
 use Rattle.planfile.specs.Writer.{valuesDue, valueDue}
 
