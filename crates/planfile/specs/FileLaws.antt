@@ -125,8 +125,12 @@ unfolding fileOf
 file-gives T plan =
     next-lines T (values-right T plan) (fileOf T) (linesOf T) none (part-blank T) (zero-add (linesOf T)) refl
 
--- and at most 8,192 bytes.
-pub file-most : (T : Table) → isPlan T ≡ true → length (fileOf T) ≤ mostBytes
-file-most T plan =
+-- and at most 6,654 bytes,
+pub file-bytes : (T : Table) → isPlan T ≡ true → length (fileOf T) ≤ 6654
+file-bytes T plan =
     let g = file-gives T plan in
     omega (arith, lines-bytes (fileOf T) (g .right), whole-bytes (g .table) (lines-shape (fileOf T) (g .right)))
+
+-- which is no more than a file may have.
+pub file-most : (T : Table) → isPlan T ≡ true → length (fileOf T) ≤ mostBytes
+file-most T plan = omega (arith, file-bytes T plan)

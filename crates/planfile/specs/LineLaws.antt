@@ -117,10 +117,10 @@ pub no-word : (key : ℕ) → 10 ≤ key → word key ≡ []
 unfolding word words
 no-word key h = List·getD-eq-default words [] h
 
--- Each line begins with a byte that isn't 0,
-pub head-some : EachKey (λ key. 0 < getD (word key ++ (61 ∷ [])) 0 0)
+-- No word has more than ten bytes, and each line begins with a byte that isn't 0,
+pub word-form : EachKey (λ key. (length (word key) ≤ 10) × (0 < getD (word key ++ (61 ∷ [])) 0 0))
 unfolding word words
-head-some = record {
+word-form = record {
   plan = omega arith;
   processors = omega arith;
   tasks = omega arith;
@@ -141,7 +141,7 @@ line-past file place key h =
     let head = word key ++ (61 ∷ []) in
     let zero-there : getD file (place + 0) 0 ≡ 0 = List·getD-eq-default file 0 (omega arith) in
     let fails : eqb (getD file (place + 0) 0) (getD head 0 0) ≡ false =
-    ne-eqb _ _ (λ (q : getD file (place + 0) 0 ≡ getD head 0 0). omega (arith, by-key head-some key)) in
+    ne-eqb _ _ (λ (q : getD file (place + 0) 0 ≡ getD head 0 0). omega (arith, by-key word-form key .1)) in
     let no = all-fails (length head) (λ i. eqb (getD file (place + i) 0) (getD head i 0)) 0 (omega (arith, length-append (word key) (61 ∷ []))) fails in
     rw no
 
@@ -177,26 +177,9 @@ module _ (file : List ℕ) (place : ℕ) where
   unfolding valueFrom
   value-other e = rw e
 
--- No word has more than ten bytes.
-pub word-most : EachKey (λ key. length (word key) ≤ 10)
-unfolding word words
-word-most = record {
-  plan = omega arith;
-  processors = omega arith;
-  tasks = omega arith;
-  task = omega arith;
-  period = omega arith;
-  deadline = omega arith;
-  steps = omega arith;
-  processor = omega arith;
-  priority = omega arith;
-  time = omega arith;
-  none = λ key h. rw (no-word key h) (omega arith);
-}
-
 -- The word, appended to an empty list of ten places or more, is there whole.
 pub word-holds : (key : ℕ) (l : List ℕ) {w : Written} → 10 ≤ length l → w ≡ appended (word key) l 0 → Holds (word key) (length l) w
-word-holds key l size e = holds-more (word key) (holds-none l) e (omega (arith, by-key word-most key))
+word-holds key l size e = holds-more (word key) (holds-none l) e (omega (arith, by-key word-form key .0))
 
 pub holds-length : {text : List ℕ} {room : ℕ} {w : Written} → Holds text room w → length (take (w .end) (w .list)) ≡ w .end
 holds-length h = ap length (h .front) ∙ sym (h .end)

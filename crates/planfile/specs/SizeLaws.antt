@@ -1,4 +1,4 @@
--- How many bytes a line takes, and a file: a plan's file has no more than a file may have.
+-- How many bytes a line takes at most, and right lines together.
 use Prim.Native.Nat.{ℕ, _+_, _*_, _^_, _≤_, _<_}
 use mathlib.Core.Path.{_≡_}
 use mathlib.Core.Bool.{true}
@@ -12,7 +12,6 @@ use Rattle.table.specs.Table.{Table}
 use Rattle.text.specs.NumeralLaws.{decimal-few}
 use Rattle.planfile.specs.Words.{words, word, lineOf}
 use Rattle.planfile.specs.Draft.{Draft, noKey, own, added, placed, following, advanced}
-use Rattle.planfile.specs.Reading.{mostBytes}
 use Rattle.planfile.specs.DraftLaws.{Shape, EachKey, by-key, byKey, none-in-range, own-most, draftOf, after-row}
 use Rattle.planfile.specs.LineTextLaws.{length-lineOf}
 use Rattle.planfile.specs.LinesLaws.{lines-shape}
@@ -108,7 +107,7 @@ lines-bytes file (more {d = d} value behind before line) =
       by-key grows (d .key) (d .table) value h,
     )
 
--- A whole table's lines: at most 32 tasks and 128 rows.
-pub whole-bytes : (T : Table) → Shape (draftOf noKey T) → bytesSoFar (draftOf noKey T) ≤ mostBytes
+-- A whole table's lines, of at most 32 tasks and 128 rows, take at most 6,654.
+pub whole-bytes : (T : Table) → Shape (draftOf noKey T) → bytesSoFar (draftOf noKey T) ≤ 6654
 unfolding bytesSoFar
 whole-bytes T s = omega arith
