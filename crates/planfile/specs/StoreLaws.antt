@@ -1,5 +1,5 @@
 -- Laws of storing the value of the line due: there is a place for it, and the lists keep the table's at their fronts.
-use Prim.Native.Nat.{ℕ, suc, _+_, _-_, _<_}
+use Prim.Native.Nat.{ℕ, suc, _<_}
 use mathlib.Core.Path.{_≡_, refl, sym, _∙_, ap}
 use mathlib.Core.Bool.{Bool, true, false}
 use mathlib.Core.List.{List, [], _∷_, _++_}
@@ -15,7 +15,7 @@ use Rattle.planfile.specs.Draft.{Draft, added, placed}
 use Rattle.planfile.specs.DraftLaws.{Shape, due-there}
 use Rattle.planfile.specs.Due.{dueOf}
 use Rattle.planfile.specs.FrontLaws.{Front}
-use Rattle.planfile.specs.Reading.{table, Lists, listsOf}
+use Rattle.planfile.specs.Reading.{Lists, listsOf}
 use Rattle.planfile.specs.Reader.{storedIf, stored}
 
 -- Lists of 32 tasks and of 128 rows.
