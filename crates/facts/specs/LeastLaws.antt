@@ -1,6 +1,6 @@
 -- Facts about least answers, proved once for every equation that has one.
-use mathlib.Core.Path.{_≡_, refl, ap, sym}
-use Prim.Native.Nat.{ℕ, zero, suc, _+_, _≤_, _<_}
+use mathlib.Core.Path.{_≡_}
+use Prim.Native.Nat.{ℕ, zero, suc, _≤_, _<_}
 use native.Mathlib.Omega.{arith, both-ways}
 use native.Mathlib.Decide.{decLe}
 use Rattle.facts.specs.Least.{Least, Unanswered}

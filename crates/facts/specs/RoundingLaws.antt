@@ -1,7 +1,6 @@
 -- Laws of quotients rounded up.
-use mathlib.Core.Path.{_≡_, refl}
-use Prim.Native.Nat.{ℕ, zero, suc, _+_, _*_, _-_, _/_, _≤_, _<_}
-use native.Mathlib.Nat.{div-lt-iff-lt-mul, lt-div-mul-add, mul-le-mul-right, mul-le-mul-left, div-le-self, div-mul-le-self}
+use Prim.Native.Nat.{ℕ, suc, _+_, _*_, _-_, _≤_, _<_}
+use native.Mathlib.Nat.{div-lt-iff-lt-mul, lt-div-mul-add, mul-le-mul-right, mul-le-mul-left, div-mul-le-self}
 use native.Mathlib.Omega.{arith, by-contra}
 use Rattle.facts.specs.Rounding.{ceil}
 
@@ -33,7 +32,3 @@ ceil-mono {x} {y} {p} {q} pp qq h l = ceil-le pp (omega (arith, le-ceil y qq, mu
 
 pub ceil-pos : {x p : ℕ} → 0 < p → 0 < x → 0 < ceil x p
 ceil-pos pp h = ceil-count pp (omega arith)
-
-pub ceil-small : (x p : ℕ) → ceil x p ≤ x + (p - 1)
-unfolding ceil
-ceil-small x p = div-le-self _ _

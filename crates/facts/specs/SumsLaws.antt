@@ -76,12 +76,6 @@ unfolding sum
 sum-bound zero f m h = omega arith
 sum-bound (suc n) f m h = omega (arith, sum-bound n f m (λ i l. h i (omega arith)), h n (omega arith))
 
--- Each term at least m: the sum at least n × m.
-pub sum-least : (n : ℕ) (f : ℕ → ℕ) (m : ℕ) → ((i : ℕ) → i < n → m ≤ f i) → n * m ≤ sum n f
-unfolding sum
-sum-least zero f m h = omega arith
-sum-least (suc n) f m h = omega (arith, sum-least n f m (λ i l. h i (omega arith)), h n (omega arith))
-
 cond-mono : (b c : Bool) {x y : ℕ} → (T b → T c × (x ≤ y)) → cond b x 0 ≤ cond c y 0
 cond-mono true true h = h tt .1
 cond-mono true false h = absurd (h tt .0)

@@ -16,7 +16,8 @@ use Rattle.table.specs.Refusals.{numberOf, placeOf}
 use Rattle.table.specs.Table.{Table, isPlan}
 use Rattle.table.specs.TableLaws.{checked}
 use Rattle.text.specs.Text.{line}
-use Rattle.text.specs.TextLaws.{length-line, decimal-most}
+use Rattle.text.specs.TextLaws.{length-line}
+use Rattle.text.specs.NumeralLaws.{decimal-most}
 use Rattle.planfile.specs.Reading.{table, held}
 use Rattle.planfile.specs.RoundTrip.{held-most, read-is}
 use Rattle.bounds.specs.Bounds.{Numbers, Analysis, Stuck}

@@ -1,7 +1,5 @@
--- What a reading leaves: the table of its answer, in lists that have room for any (document 01: "room for 128 rows and 32
--- tasks is needed").
+-- What a reading leaves: the table of its answer.
 use Rattle.table.specs.Table.{Table, tableOf}
-use Rattle.table.specs.TableLaws.{Long}
 use Rattle.planfile.specs.declared.read.Counts.{Counts}
 use Rattle.planfile.specs.Reading.{Lists}
 
@@ -9,8 +7,3 @@ use Rattle.planfile.specs.Reading.{Lists}
 abbrev pub tableIn : Counts → Lists → Table
 tableIn c l =
     tableOf (c .processors) (c .tasks) (l .period) (l .deadline) (l .steps) (l .processor) (l .priority) (l .time)
-
--- The lists have room for every table.
-pub record Roomy (l : Lists) : Type 0 where
-  pub rows : Long 128 (l .processor) (l .priority) (l .time)
-  pub tasks : Long 32 (l .period) (l .deadline) (l .steps)

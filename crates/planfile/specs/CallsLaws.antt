@@ -1,12 +1,13 @@
 -- Reading and writing have one outcome for each input, and a refusal leaves what is lent (document 01, "How tight the
 -- contracts are" and "Numbers that say no").
 use Prim.Native.Nat.{ℕ}
-use mathlib.Core.Path.{_≡_, refl, sym, _∙_}
+use mathlib.Core.Path.{_≡_, refl}
 use mathlib.Core.Bool.{Bool, true, false, cond, not}
 use mathlib.Core.List.{List}
 use native.Mathlib.Omega.{arith}
 use lib.Dec.{ltb}
 use lib.ListN.{length}
+use Rattle.facts.specs.OutcomesLaws.{equation-one}
 use Rattle.table.specs.Table.{Table, longEnough, isPlan}
 use Rattle.table.specs.declared.refusal.Refusal.{Refusal}
 use Rattle.table.specs.declared.refusal.Refusal.the-variants.{FileTooLong, NotAPlan, TooShort}
@@ -22,17 +23,17 @@ use Rattle.planfile.specs.Writing.{WriteOutcome, write}
 
 -- Any two outcomes that a contract allows for one input are equal.
 pub read-one : (file : List ℕ) (l : Lists) (a b : ReadOutcome) → a ≡ read file l → b ≡ read file l → a ≡ b
-read-one file l a b e f = e ∙ sym f
+read-one file l a b = equation-one
 
 pub write-one : (T : Table) (out : List ℕ) (a b : WriteOutcome) → a ≡ write T out → b ≡ write T out → a ≡ b
-write-one T out a b e f = e ∙ sym f
+write-one T out a b = equation-one
 
 pub line-one : (file : List ℕ) (place key : ℕ) (a b : Line) → a ≡ lineAt file place key → b ≡ lineAt file place key → a ≡ b
-line-one file place key a b e f = e ∙ sym f
+line-one file place key a b = equation-one
 
 pub word-one :
     (key : ℕ) (out : List ℕ) (at : ℕ) (a b : Written) → a ≡ appended (word key) out at → b ≡ appended (word key) out at → a ≡ b
-word-one key out at a b e f = e ∙ sym f
+word-one key out at a b = equation-one
 
 -- A refusal of reading leaves every list.
 abbrev Leaves : Lists → ReadOutcome → Type 0

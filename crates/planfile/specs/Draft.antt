@@ -1,13 +1,13 @@
 -- A table as far as its lines go, and which line comes next (document 01, "The plan on paper": the order of the lines, and
 -- "Each key decides what may follow it").
-use Prim.Native.Nat.{ℕ, suc, _+_, _*_}
+use Prim.Native.Nat.{ℕ, _+_}
 use mathlib.Core.Bool.{Bool, true, false, cond}
 use mathlib.Core.List.{List, [], _∷_, _++_}
 use lib.Dec.{ltb, eqb}
 use lib.ListN.{length}
 use Rattle.facts.specs.Sums.{sum}
 use Rattle.table.specs.Keys.{planKey, processorsKey, tasksKey, taskKey, periodKey, deadlineKey, stepsKey, processorKey, priorityKey, timeKey}
-use Rattle.table.specs.Table.{Table, tableOf, at, rows}
+use Rattle.table.specs.Table.{Table, tableOf, at}
 
 -- The key due and the table so far.
 pub record Draft : Type 0 where

@@ -1,6 +1,6 @@
 -- The shape of a draft: how long its lists are while each key is due, and that each line keeps the shape.
 use Prim.Native.Nat.{ℕ, zero, suc, _+_, _*_, _≤_, _<_}
-use mathlib.Core.Path.{_≡_, refl, _∙_}
+use mathlib.Core.Path.{_≡_, refl, sym, _∙_, subst}
 use mathlib.Core.Bool.{Bool, true, false, cond, _&&_}
 use mathlib.Core.List.{List, [], _∷_, _++_}
 use native.Mathlib.Omega.{arith}
@@ -18,6 +18,18 @@ use Rattle.table.specs.RangesLaws.{within-of}
 use Rattle.table.specs.Table.{Table, at, mostRows}
 use Rattle.planfile.specs.Draft.{Draft, noKey, blank, rowsAsked, own, added, placed, following, advanced}
 use Rattle.planfile.specs.Reading.{tooMany}
+
+-- The draft of a key and a table.
+abbrev pub draftOf : ℕ → Table → Draft
+draftOf key T = record { key = key; table = T }
+
+-- What holds where this key is due.
+pub where-due : (Q : Draft → Type 0) (d : Draft) (key : ℕ) → d .key ≡ key → Q (draftOf key (d .table)) → Q d
+where-due Q d key e q = subst (λ (k : ℕ). Q (draftOf k (d .table))) (sym e) q
+
+-- And the other way round.
+pub due-there : (Q : Draft → Type 0) (d : Draft) (key : ℕ) → d .key ≡ key → Q d → Q (draftOf key (d .table))
+due-there Q d key e q = subst (λ (k : ℕ). Q (draftOf k (d .table))) e q
 
 -- How much longer or shorter a list is while each key is due, by the key's number from `plan` to none.
 abbrev pub byKey : List ℕ → Draft → ℕ
@@ -41,10 +53,6 @@ pub record Shape (d : Draft) : Type 0 where
   pub row-most : rowsAsked (d .table) ≤ mostRows
   pub row-none : rowsAsked (d .table) ≤ byKey (0 ∷ 0 ∷ 0 ∷ 128 ∷ 128 ∷ 128 ∷ 128 ∷ 128 ∷ 128 ∷ 128 ∷ 128 ∷ []) d
   pub row-left : rowsAsked (d .table) ≤ length (d .table .time) + byKey (0 ∷ 0 ∷ 0 ∷ 0 ∷ 0 ∷ 0 ∷ 0 ∷ 16 ∷ 16 ∷ 16 ∷ 0 ∷ []) d
-
--- The shape while a key of this number is due.
-pub at-key : (d : Draft) {key : ℕ} → d .key ≡ key → Shape d → Shape (record { key = key; table = d .table })
-at-key d e s = rw e at s
 
 -- The value of the line due is right: in its range, and not too many rows.
 pub record Accepted (d : Draft) (v : ℕ) : Type 0 where
@@ -149,37 +157,33 @@ own-most d s =
 
 -- After a row's `time` line comes the task's next row, the next task, or nothing.
 pub after-row :
-    (T : Table) (v : ℕ) (P : ℕ → Type 0) → (length (T .time) + 1 < rowsAsked T → P processorKey)
-    → (rowsAsked T ≤ length (T .time) + 1 → length (T .steps) < T .tasks → P taskKey)
-    → (rowsAsked T ≤ length (T .time) + 1 → T .tasks ≤ length (T .steps) → P noKey)
-    → P (following timeKey (placed timeKey v T))
-unfolding following placed added rowsAsked
-after-row T v P row task none = go (decLt (length (T .time) + 1) (rowsAsked T)) (decLt (length (T .steps)) (T .tasks))
+    (T : Table) (P : ℕ → Type 0) → (length (T .time) < rowsAsked T → P processorKey)
+    → (rowsAsked T ≤ length (T .time) → length (T .steps) < T .tasks → P taskKey)
+    → (rowsAsked T ≤ length (T .time) → T .tasks ≤ length (T .steps) → P noKey) → P (following timeKey T)
+unfolding following
+after-row T P row task none = go (decLt (length (T .time)) (rowsAsked T)) (decLt (length (T .steps)) (T .tasks))
   where
-    one-more : length (T .time ++ (v ∷ [])) ≡ length (T .time) + 1
-    one-more = length-append (T .time) (v ∷ [])
-
-    go : Dec (length (T .time) + 1 < rowsAsked T) → Dec (length (T .steps) < T .tasks) → P (following timeKey (placed timeKey v T))
-    go (yes r) t = rw (one-more, lt-ltb _ _ r) (row r)
+    go : Dec (length (T .time) < rowsAsked T) → Dec (length (T .steps) < T .tasks) → P (following timeKey T)
+    go (yes r) t = rw (lt-ltb _ _ r) (row r)
     go (no r) (yes t) =
-        let r′ : rowsAsked T ≤ length (T .time) + 1 = omega arith in
-        rw (one-more, le-ltb _ _ r′, lt-ltb _ _ t) (task r′ t)
+        let r′ : rowsAsked T ≤ length (T .time) = omega arith in
+        rw (le-ltb _ _ r′, lt-ltb _ _ t) (task r′ t)
     go (no r) (no t) =
-        let r′ : rowsAsked T ≤ length (T .time) + 1 = omega arith in
+        let r′ : rowsAsked T ≤ length (T .time) = omega arith in
         let t′ : T .tasks ≤ length (T .steps) = omega arith in
-        rw (one-more, le-ltb _ _ r′, le-ltb _ _ t′) (none r′ t′)
+        rw (le-ltb _ _ r′, le-ltb _ _ t′) (none r′ t′)
 
 -- The line of the key due keeps the shape.
 abbrev Keeps : ℕ → Type 0
 Keeps key =
-    (T : Table) (v : ℕ) → Shape (record { key = key; table = T }) → Accepted (record { key = key; table = T }) v
-    → Shape (advanced (record { key = key; table = T }) v)
+    (T : Table) (v : ℕ) → Shape (draftOf key T) → Accepted (draftOf key T) v
+    → Shape (advanced (draftOf key T) v)
 
 keeps-time : Keeps timeKey
 unfolding advanced placed added rowsAsked
 keeps-time T v s a =
     let one-more = length-append (T .time) (v ∷ []) in
-    after-row T v (λ key. Shape (record { key = key; table = placed timeKey v T }))
+    after-row (placed timeKey v T) (λ key. Shape (draftOf key (placed timeKey v T)))
     (λ r. omega (arith, one-more)) (λ r t. omega (arith, one-more)) (λ r t. omega (arith, one-more))
 
 keeps : EachKey Keeps
@@ -209,13 +213,13 @@ linesSoFar d =
 abbrev Counts : ℕ → Type 0
 Counts key =
     (T : Table) (v : ℕ) → key < noKey
-    → linesSoFar (advanced (record { key = key; table = T }) v) ≡ suc (linesSoFar (record { key = key; table = T }))
+    → linesSoFar (advanced (draftOf key T) v) ≡ suc (linesSoFar (draftOf key T))
 
 counts-time : Counts timeKey
 unfolding linesSoFar advanced placed added
 counts-time T v h =
     let one-more = length-append (T .time) (v ∷ []) in
-    after-row T v (λ key. linesSoFar (record { key = key; table = placed timeKey v T }) ≡ suc (linesSoFar (record { key = timeKey; table = T })))
+    after-row (placed timeKey v T) (λ key. linesSoFar (draftOf key (placed timeKey v T)) ≡ suc (linesSoFar (draftOf timeKey T)))
     (λ r. omega (arith, one-more)) (λ r t. omega (arith, one-more)) (λ r t. omega (arith, one-more))
 
 -- Each line counts.

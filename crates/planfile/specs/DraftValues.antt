@@ -13,9 +13,9 @@ use Rattle.table.specs.Keys.{processorsKey, tasksKey, periodKey, deadlineKey, s
 use Rattle.table.specs.Ranges.{inRange, rangeOf}
 use Rattle.table.specs.Table.{Table, at}
 use Rattle.planfile.specs.Draft.{Draft, blank, own, added, placed, advanced}
-use Rattle.planfile.specs.DraftLaws.{Shape}
+use Rattle.planfile.specs.DraftLaws.{Shape, draftOf, due-there}
 use Rattle.planfile.specs.PlanValues.{InRange}
-use Rattle.planfile.specs.FrontLaws.{draftOf, due-there, count-next}
+use Rattle.planfile.specs.FrontLaws.{count-next}
 
 pub record ValuesSoFar (d : Draft) : Type 0 where
   pub processors : processorsKey < d .key → inRange processorsKey 0 (d .table .processors) ≡ true

@@ -11,17 +11,13 @@ use Rattle.table.specs.Keys.{taskKey, stepsKey, timeKey}
 use Rattle.table.specs.Ranges.{inRange}
 use Rattle.table.specs.Table.{at}
 use Rattle.planfile.specs.declared.due.Due.{Due}
-use Rattle.planfile.specs.Draft.{Draft, blank, rowsAsked, own, added, placed, following, advanced}
-use Rattle.planfile.specs.DraftLaws.{Shape, asked-more, value-most, own-few}
+use Rattle.planfile.specs.Draft.{Draft, blank, rowsAsked, added, placed, following, advanced}
+use Rattle.planfile.specs.DraftLaws.{draftOf, Shape, asked-more, value-most, own-few}
 use Rattle.planfile.specs.Due.{dueOf, begun, ownNumber, counted, nextKey, keyed, past}
 
 pub due-blank : begun ≡ dueOf blank
 unfolding dueOf blank rowsAsked sum
 due-blank = refl
-
-pub due-own : (d : Draft) → own d ≡ ownNumber (dueOf d)
-unfolding own ownNumber dueOf
-due-own d = refl
 
 length-added : (b : Bool) (v : ℕ) (l : List ℕ) → length (added b v l) ≡ cond b (length l + 1) (length l)
 unfolding added
@@ -34,7 +30,7 @@ asked-added true v l = asked-more l v
 asked-added false v l = refl
 
 -- One line further the counts are those of the draft one line further,
-due-counted : (d : Draft) (v : ℕ) → dueOf (record { key = d .key; table = placed (d .key) v (d .table) }) ≡ counted (d .key) (dueOf d) v
+due-counted : (d : Draft) (v : ℕ) → dueOf (draftOf (d .key) (placed (d .key) v (d .table))) ≡ counted (d .key) (dueOf d) v
 unfolding dueOf counted placed rowsAsked
 due-counted d v =
     let n = length-added (eqb (d .key) stepsKey) v (d .table .steps) in

@@ -1,8 +1,6 @@
 -- The bytes of a table: what a plan file means (document 01, "The plan on paper").
 use Prim.Native.Nat.{ℕ, zero, suc, _+_, _*_}
-use mathlib.Core.Bool.{cond}
 use mathlib.Core.List.{List, [], _∷_, _++_}
-use lib.Dec.{eqb}
 use lib.ListN.{length, getD}
 use Rattle.table.specs.Table.{Table, at, rows}
 use Rattle.planfile.specs.Words.{lineOf}

@@ -9,7 +9,7 @@ use lib.ListN.{length, drop, length-drop}
 use Rattle.table.specs.Table.{Table, firstRow, rows, isPlan}
 use Rattle.planfile.specs.Words.{lineOf}
 use Rattle.planfile.specs.Draft.{Draft, noKey, own, advanced}
-use Rattle.planfile.specs.DraftLaws.{Shape, EachKey, by-key, linesSoFar}
+use Rattle.planfile.specs.DraftLaws.{Shape, EachKey, by-key, own-most, linesSoFar, draftOf, where-due, due-there}
 use Rattle.planfile.specs.File.{valueFor, linesFrom, linesOf, fileOf}
 use Rattle.planfile.specs.Reading.{mostBytes}
 use Rattle.planfile.specs.Verdicts.{RightLine, RightLines}
@@ -17,9 +17,9 @@ use Rattle.planfile.specs.Verdicts.RightLines.{none, more}
 use Rattle.planfile.specs.VerdictsLaws.{lines-within}
 use Rattle.planfile.specs.LineTextLaws.{written-stands, written-rest}
 use Rattle.planfile.specs.LinesLaws.{lines-shape, lines-count}
-use Rattle.planfile.specs.SizeLaws.{value-takes, own-most, lines-bytes, whole-bytes}
+use Rattle.planfile.specs.SizeLaws.{value-takes, lines-bytes, whole-bytes}
 use Rattle.planfile.specs.PlanValues.{ValuesRight, values-right}
-use Rattle.planfile.specs.FrontLaws.{draftOf, where-due, due-there, PartOf, part-blank}
+use Rattle.planfile.specs.FrontLaws.{PartOf, part-blank}
 use Rattle.planfile.specs.NextLineLaws.{ahead, asked-part, value-fits, value-few, part-next}
 
 -- Behind the last line there are as many lines as the table has,
@@ -54,17 +54,18 @@ module _ (T : Table) (ok : ValuesRight T) where
   }
 
   module _ (d : Draft) (s : Shape d) (p : PartOf T d) where
+    pub lines-left : d .key < noKey → linesSoFar d < linesOf T
+    lines-left h = by-key fewer (d .key) h (d .table) s p
+
+    pub lines-all : d .key ≡ noKey → linesSoFar d ≡ linesOf T
+    lines-all e =
+        where-due (λ c. Shape c → PartOf T c → linesSoFar c ≡ linesOf T) d noKey e (all-lines T (d .table)) s p
+
     line-due : linesSoFar d < linesOf T → d .key < noKey
-    line-due h = by-contra (suc (d .key)) noKey (λ b. omega (arith, last (both-ways (d .key) noKey (s .key-most) (omega arith))))
-      where
-        last : d .key ≡ noKey → linesSoFar d ≡ linesOf T
-        last e =
-            where-due (λ c. Shape c → PartOf T c → linesSoFar c ≡ linesOf T) d noKey e (all-lines T (d .table)) s p
+    line-due h = by-contra (suc (d .key)) noKey (λ b. omega (arith, lines-all (both-ways (d .key) noKey (s .key-most) (omega arith))))
 
     no-line-due : linesSoFar d ≡ linesOf T → d .key ≡ noKey
-    no-line-due e =
-        both-ways (d .key) noKey (s .key-most)
-        (by-contra noKey (d .key) (λ b. omega (arith, by-key fewer (d .key) b (d .table) s p)))
+    no-line-due e = both-ways (d .key) noKey (s .key-most) (by-contra noKey (d .key) (λ b. omega (arith, lines-left b)))
 
 -- All lines of the file are right, and give a table that is a part of this one.
 pub record Gives (file : List ℕ) (T : Table) : Type 0 where
@@ -124,8 +125,12 @@ unfolding fileOf
 file-gives T plan =
     next-lines T (values-right T plan) (fileOf T) (linesOf T) none (part-blank T) (zero-add (linesOf T)) refl
 
--- and at most 8,192 bytes.
-pub file-most : (T : Table) → isPlan T ≡ true → length (fileOf T) ≤ mostBytes
-file-most T plan =
+-- and at most 6,654 bytes,
+pub file-bytes : (T : Table) → isPlan T ≡ true → length (fileOf T) ≤ 6654
+file-bytes T plan =
     let g = file-gives T plan in
     omega (arith, lines-bytes (fileOf T) (g .right), whole-bytes (g .table) (lines-shape (fileOf T) (g .right)))
+
+-- which is no more than a file may have.
+pub file-most : (T : Table) → isPlan T ≡ true → length (fileOf T) ≤ mostBytes
+file-most T plan = omega (arith, file-bytes T plan)

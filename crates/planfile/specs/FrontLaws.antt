@@ -1,34 +1,22 @@
 -- A draft that is a table as far as it goes: from each line to the one before, and to the next.
 use Prim.Native.Nat.{ℕ, suc, _+_, _≤_, _<_}
-use mathlib.Core.Path.{_≡_, refl, sym, _∙_, ap, subst}
+use mathlib.Core.Path.{_≡_, refl, sym, _∙_, ap}
 use mathlib.Core.Bool.{Bool, true, false, cond}
 use mathlib.Core.List.{List, [], _∷_, _++_}
 use native.Mathlib.Omega.{arith, by-contra}
 use native.Mathlib.Decide.{ℕ-discrete}
 use native.Mathlib.Numerals.{add-one}
 use borrow.Author.Tests.{eq-eqb, ne-eqb}
-use lib.Dec.{eqb, ltb}
+use lib.Dec.{eqb}
 use lib.ListN.{length, getD, take, length-append}
 use lib.Seq.{take-take, take-suc, take-append-seam, take-length, getD-take, getD-append-seam}
 use Rattle.table.specs.Keys.{planKey, processorsKey, tasksKey, taskKey, periodKey, deadlineKey, stepsKey, processorKey, priorityKey, timeKey}
 use Rattle.table.specs.Ranges.{inRange, rangeOf, ranges}
 use Rattle.table.specs.RangesLaws.{within-of}
 use Rattle.table.specs.Table.{Table, at}
-use Rattle.planfile.specs.Draft.{Draft, noKey, blank, rowsAsked, own, added, placed, following, advanced}
-use Rattle.planfile.specs.DraftLaws.{EachKey, by-key, none-in-range}
+use Rattle.planfile.specs.Draft.{Draft, blank, own, added, placed, following, advanced}
+use Rattle.planfile.specs.DraftLaws.{draftOf, EachKey, by-key, none-in-range, after-row}
 use Rattle.planfile.specs.File.{valueFor}
-
--- The draft of a key and a table.
-abbrev pub draftOf : ℕ → Table → Draft
-draftOf key T = record { key = key; table = T }
-
--- What holds where this key is due.
-pub where-due : (Q : Draft → Type 0) (d : Draft) (key : ℕ) → d .key ≡ key → Q (draftOf key (d .table)) → Q d
-where-due Q d key e q = subst (λ (k : ℕ). Q (draftOf k (d .table))) (sym e) q
-
--- And the other way round.
-pub due-there : (Q : Draft → Type 0) (d : Draft) (key : ℕ) → d .key ≡ key → Q d → Q (draftOf key (d .table))
-due-there Q d key e q = subst (λ (k : ℕ). Q (draftOf k (d .table))) e q
 
 -- The list l is the front of the list m.
 abbrev pub Front : List ℕ → List ℕ → Type 0
@@ -98,19 +86,7 @@ part-whole d = record {
   time = take-length (d .table .time);
 }
 
--- The next key.
-
--- After a `time` line it is `processor`, `task` or none,
-pub following-time : (T : Table) (P : ℕ → Type 0) → P processorKey → P taskKey → P noKey → P (following timeKey T)
-unfolding following
-following-time T P row task none = go (ltb (length (T .time)) (rowsAsked T)) (ltb (length (T .steps)) (T .tasks))
-  where
-    go : (a b : Bool) → P (cond a processorKey (cond b taskKey noKey))
-    go true b = row
-    go false true = task
-    go false false = none
-
--- and after any other key the next in order.
+-- After any key but `time` the next in order follows.
 pub following-other : (key : ℕ) (T : Table) → (key ≡ timeKey → ⊥) → following key T ≡ key + 1
 unfolding following
 following-other key T h = rw (ne-eqb key timeKey h)
@@ -120,7 +96,7 @@ count-kept : (c key v old : ℕ) (T : Table) → c ≤ tasksKey → c < key → 
 count-kept c key v old T l h = (go (ℕ-discrete key timeKey), rw (ne-eqb key c (λ e. omega arith)))
   where
     go : Dec (key ≡ timeKey) → c < following key T
-    go (yes e) = rw e (following-time T (λ n. c < n) (omega arith) (omega arith) (omega arith))
+    go (yes e) = rw e (after-row T (λ n. c < n) (λ r. omega arith) (λ r t. omega arith) (λ r t. omega arith))
     go (no e) = rw (following-other key T e) (omega arith)
 
 -- What holds of the value that a line brings and of the count that was there holds of the count that is there then.

@@ -26,8 +26,9 @@ pub mod LineLaws
 pub mod Due
 pub mod DueLaws
 pub mod Reader
+pub mod JudgeLaws
+pub mod StoreLaws
 pub mod ReaderLaws
-pub mod PartLaws
 pub mod Writer
 pub mod WriterLaws
 pub mod CallsLaws

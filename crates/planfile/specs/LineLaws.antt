@@ -117,10 +117,10 @@ pub no-word : (key : ℕ) → 10 ≤ key → word key ≡ []
 unfolding word words
 no-word key h = List·getD-eq-default words [] h
 
--- Each line begins with a byte that isn't 0,
-pub head-some : EachKey (λ key. 0 < getD (word key ++ (61 ∷ [])) 0 0)
+-- No word has more than ten bytes, and each line begins with a byte that isn't 0,
+pub word-form : EachKey (λ key. (length (word key) ≤ 10) × (0 < getD (word key ++ (61 ∷ [])) 0 0))
 unfolding word words
-head-some = record {
+word-form = record {
   plan = omega arith;
   processors = omega arith;
   tasks = omega arith;
@@ -141,7 +141,7 @@ line-past file place key h =
     let head = word key ++ (61 ∷ []) in
     let zero-there : getD file (place + 0) 0 ≡ 0 = List·getD-eq-default file 0 (omega arith) in
     let fails : eqb (getD file (place + 0) 0) (getD head 0 0) ≡ false =
-    ne-eqb _ _ (λ (q : getD file (place + 0) 0 ≡ getD head 0 0). omega (arith, by-key head-some key)) in
+    ne-eqb _ _ (λ (q : getD file (place + 0) 0 ≡ getD head 0 0). omega (arith, by-key word-form key .1)) in
     let no = all-fails (length head) (λ i. eqb (getD file (place + i) 0) (getD head i 0)) 0 (omega (arith, length-append (word key) (61 ∷ []))) fails in
     rw no
 
@@ -177,59 +177,26 @@ module _ (file : List ℕ) (place : ℕ) where
   unfolding valueFrom
   value-other e = rw e
 
--- No word has more than ten bytes.
-pub word-most : EachKey (λ key. length (word key) ≤ 10)
-unfolding word words
-word-most = record {
-  plan = omega arith;
-  processors = omega arith;
-  tasks = omega arith;
-  task = omega arith;
-  period = omega arith;
-  deadline = omega arith;
-  steps = omega arith;
-  processor = omega arith;
-  priority = omega arith;
-  time = omega arith;
-  none = λ key h. rw (no-word key h) (omega arith);
-}
-
 -- The word, appended to an empty list of ten places or more, is there whole.
 pub word-holds : (key : ℕ) (l : List ℕ) {w : Written} → 10 ≤ length l → w ≡ appended (word key) l 0 → Holds (word key) (length l) w
-word-holds key l size e = holds-more (word key) (holds-none l) e (omega (arith, by-key word-most key))
+word-holds key l size e = holds-more (word key) (holds-none l) e (omega (arith, by-key word-form key .0))
 
 pub holds-length : {text : List ℕ} {room : ℕ} {w : Written} → Holds text room w → length (take (w .end) (w .list)) ≡ w .end
 holds-length h = ap length (h .front) ∙ sym (h .end)
 
--- A list of 11 places has the key's word and '=' at its front.
-pub record Beginning (key : ℕ) (w : Written) : Type 0 where
-  pub front : take (w .end) (w .list) ≡ word key ++ (61 ∷ [])
-  pub end : w .end ≡ length (word key) + 1
-  pub end-most : w .end ≤ 11
-  pub length-front : length (take (w .end) (w .list)) ≡ w .end
+-- The line that begins with these bytes.
+unfoldable pub lineHeaded : List ℕ → ℕ → List ℕ → Line
+lineHeaded file place head = cond (stands file place head) (valueFrom file (place + length head)) Fault
 
--- So it is once they are appended one after the other.
-pub head-holds :
-    (key : ℕ) (l : List ℕ) {v w : Written} → length l ≡ 11 → v ≡ appended (word key) l 0
-    → w ≡ appended (61 ∷ []) (v .list) (v .end) → Beginning key w
-head-holds key l size e f =
-    let few = by-key word-most key in
-    let h = holds-more (61 ∷ []) (word-holds key l (omega arith) e) f (omega arith) in
-    record {
-      front = h .front;
-      end = h .end ∙ length-append (word key) (61 ∷ []);
-      end-most = omega (arith, h .end, length-append (word key) (61 ∷ []));
-      length-front = holds-length h;
-    }
+-- With the word of a key and '=' it is the key's line.
+pub line-headed : (file : List ℕ) (place key : ℕ) → lineHeaded file place (word key ++ (61 ∷ [])) ≡ lineAt file place key
+unfolding lineHeaded lineAt
+line-headed file place key =
+    let there : place + length (word key ++ (61 ∷ [])) ≡ place + length (word key) + 1 =
+    omega (arith, length-append (word key) (61 ∷ [])) in
+    rw there
 
--- The line of the key by these bytes.
-module _ (file : List ℕ) (place : ℕ) {key : ℕ} {w : Written} (b : Beginning key w) where
-  pub line-fault : stands file place (take (w .end) (w .list)) ≡ false → lineAt file place key ≡ Fault
-  unfolding lineAt
-  line-fault e = rw (← b .front, e)
-
-  pub line-value : stands file place (take (w .end) (w .list)) ≡ true → lineAt file place key ≡ valueFrom file (place + w .end)
-  unfolding lineAt
-  line-value e =
-      let there : place + length (word key) + 1 ≡ place + w .end = omega (arith, b .end) in
-      rw (← b .front, e, there)
+pub line-named :
+    (file : List ℕ) (place : ℕ) {key k : ℕ} {l : Line} → key ≡ k → l ≡ lineHeaded file place (word k ++ (61 ∷ []))
+    → l ≡ lineAt file place key
+line-named file place {key} {k} e f = f ∙ line-headed file place k ∙ ap (λ (n : ℕ). lineAt file place n) (sym e)

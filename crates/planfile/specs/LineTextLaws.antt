@@ -125,18 +125,12 @@ written-rest file place key v rest e =
     let n = length (lineOf key v) in
     sym (drop-drop n place file) ∙ ap (λ (t : List ℕ). drop n t) e ∙ drop-append-seam (lineOf key v) rest
 
--- and it stands there,
+-- and it stands there.
 pub written-stands :
     (file : List ℕ) (place key v : ℕ) (rest : List ℕ) → v < 10 ^ 9 → drop place file ≡ lineOf key v ++ rest
     → LineStands file place key v (place + length (lineOf key v))
 written-stands file place key v rest h e =
     record { small = h; bytes = rw (written-rest file place key v rest e) e; ends = refl }
-
--- so it is read back.
-pub written-read :
-    (file : List ℕ) (place key v : ℕ) (rest : List ℕ) → v < 10 ^ 9 → drop place file ≡ lineOf key v ++ rest
-    → lineAt file place key ≡ Value v (place + length (lineOf key v))
-written-read file place key v rest h e = line-read file place key v _ (written-stands file place key v rest h e)
 
 -- A line that stands in the file ends within it, past its start.
 pub stands-within :

@@ -10,12 +10,12 @@ use Rattle.table.specs.Keys.{processorsKey, tasksKey, processorKey}
 use Rattle.table.specs.Ranges.{inRange}
 use Rattle.table.specs.Table.{Table, rows, isPlan}
 use Rattle.planfile.specs.Draft.{noKey}
-use Rattle.planfile.specs.DraftLaws.{Shape}
+use Rattle.planfile.specs.DraftLaws.{Shape, draftOf}
 use Rattle.planfile.specs.File.{fileOf}
 use Rattle.planfile.specs.Reading.{Lists, laidOver}
 use Rattle.planfile.specs.Answered.{tableIn}
 use Rattle.planfile.specs.PlanValues.{InRange, values-right, is-plan}
-use Rattle.planfile.specs.FrontLaws.{draftOf, PartOf, Front}
+use Rattle.planfile.specs.FrontLaws.{PartOf, Front}
 use Rattle.planfile.specs.NextLineLaws.{front-at}
 use Rattle.planfile.specs.RoundTrip.{same-tasks, same-rows, whole-part, trimmed-file}
 use Rattle.planfile.specs.TrimmedLaws.{Full, full-of}

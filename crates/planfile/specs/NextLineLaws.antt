@@ -4,27 +4,27 @@ use mathlib.Core.Path.{_≡_, refl, sym, _∙_, ap}
 use mathlib.Core.Bool.{Bool, true, false, _&&_}
 use mathlib.Core.List.{List, [], _∷_}
 use native.Mathlib.Omega.{arith}
-use borrow.Author.Tests.{eqb-true, le-ltb, le-leb}
+use borrow.Author.Tests.{eqb-true, le-ltb}
 use lib.Dec.{eqb, ltb}
 use lib.ListN.{length}
 use lib.Seq.{getD-take}
 use Rattle.facts.specs.SumsLaws.{sum-ext}
-use Rattle.facts.specs.TestsLaws.{and-true}
 use Rattle.table.specs.Keys.{processorsKey, tasksKey, taskKey, periodKey, deadlineKey, stepsKey, processorKey, priorityKey, timeKey}
 use Rattle.table.specs.Ranges.{inRange, rangeOf, ranges}
+use Rattle.table.specs.RangesLaws.{in-range-of}
 use Rattle.table.specs.Table.{Table, at, firstRow, rows, mostRows}
 use Rattle.table.specs.PlanLaws.{first-row-suc, first-row-mono}
 use Rattle.planfile.specs.Draft.{Draft, noKey, rowsAsked, own, added, placed, advanced}
-use Rattle.planfile.specs.DraftLaws.{Shape, EachKey, by-key, byKey}
+use Rattle.planfile.specs.DraftLaws.{Shape, EachKey, by-key, byKey, draftOf, where-due}
 use Rattle.planfile.specs.File.{valueFor}
 use Rattle.planfile.specs.Reading.{tooMany}
 use Rattle.planfile.specs.PlanValues.{ValuesRight}
-use Rattle.planfile.specs.FrontLaws.{draftOf, where-due, PartOf, Front, front-more, count-next}
+use Rattle.planfile.specs.FrontLaws.{PartOf, Front, front-more, count-next}
 
 -- The next number is in the range of `task`.
 same-number : (n : ℕ) → inRange taskKey n n ≡ true
-unfolding inRange rangeOf
-same-number n = and-true (le-leb n n (omega arith)) (le-leb n n (omega arith))
+unfolding rangeOf
+same-number n = in-range-of taskKey n n (omega arith)
 
 -- A front has the list's entries,
 pub front-at : (l m : List ℕ) → Front l m → (i : ℕ) → i < length l → at l i ≡ at m i

@@ -1,17 +1,17 @@
 -- Reading and writing as a caller sees them: their outcomes undo each other.
-use Prim.Native.Nat.{ℕ, _≤_, _<_}
+use Prim.Native.Nat.{ℕ, _≤_}
 use mathlib.Core.Path.{_≡_, refl, sym, _∙_, ap, subst}
 use mathlib.Core.Logic.{_↔_}
 use mathlib.Core.Bool.{Bool, true, false, cond, not}
 use mathlib.Core.List.{List}
 use native.Mathlib.Omega.{arith}
-use borrow.Author.Tests.{le-ltb, lt-ltb, ltb-false}
+use borrow.Author.Tests.{le-ltb, ltb-false}
 use lib.Dec.{ltb}
 use lib.ListN.{length, take, drop}
 use lib.Seq.{take-append-seam}
 use Rattle.facts.specs.Filled.{laid}
 use Rattle.table.specs.Table.{Table, at, rows, isPlan, longEnough}
-use Rattle.table.specs.TableLaws.{long-of, long-true}
+use Rattle.table.specs.TableLaws.{Long, long-of, long-true}
 use Rattle.table.specs.declared.refusal.Refusal.{Refusal}
 use Rattle.table.specs.declared.refusal.Refusal.the-variants.{FileTooLong, NotAPlan, TooShort}
 use Rattle.planfile.specs.declared.read.Counts.{Counts}
@@ -25,12 +25,17 @@ use Rattle.planfile.specs.Verdicts.{Verdict}
 use Rattle.planfile.specs.VerdictsLaws.{verdict, verdict-held}
 use Rattle.planfile.specs.FileLaws.{file-most}
 use Rattle.planfile.specs.Draft.{noKey}
-use Rattle.planfile.specs.DraftLaws.{Shape}
-use Rattle.planfile.specs.FrontLaws.{draftOf, PartOf}
+use Rattle.planfile.specs.DraftLaws.{Shape, draftOf}
+use Rattle.planfile.specs.FrontLaws.{PartOf}
 use Rattle.planfile.specs.RoundTrip.{reads-back, read-is, held-shape}
 use Rattle.planfile.specs.LongerLaws.{longer-plan, longer-file, laid-part}
 use Rattle.planfile.specs.Trimmed.{trimmed}
-use Rattle.planfile.specs.Answered.{tableIn, Roomy}
+use Rattle.planfile.specs.Answered.{tableIn}
+
+-- The lists have room for every table.
+pub record Roomy (l : Lists) : Type 0 where
+  pub rows : Long 128 (l .processor) (l .priority) (l .time)
+  pub tasks : Long 32 (l .period) (l .deadline) (l .steps)
 
 -- Reading.
 
@@ -38,15 +43,10 @@ not-read : {r : Refusal} {c : Counts} → Refused r ≡ Read c → ⊥
 not-read {r} {c} e = let z : _≡_ {A = ℕ} 0 1 = cc in omega arith
 
 module _ (file : List ℕ) (l : Lists) where
-  -- With room, a file that is not too long is read as what it holds,
+  -- With room, a file that is not too long is read as what it holds.
   pub read-held : Roomy l → length file ≤ mostBytes → read file l ≡ readOf (held file) l
   unfolding read
   read-held r h = rw (long-true _ _ _ _ (r .rows), long-true _ _ _ _ (r .tasks), le-ltb _ _ h)
-
-  -- and a longer one is refused.
-  pub read-long : Roomy l → mostBytes < length file → read file l ≡ record { answer = Refused FileTooLong; lists = l }
-  unfolding read
-  read-long r h = rw (long-true _ _ _ _ (r .rows), long-true _ _ _ _ (r .tasks), lt-ltb _ _ h)
 
   -- A success says that there is room, and what the file holds.
   pub record Success (c : Counts) : Type 0 where

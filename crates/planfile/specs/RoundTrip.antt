@@ -10,7 +10,7 @@ use lib.ListN.{length, take}
 use lib.Seq.{take-length}
 use Rattle.table.specs.Table.{Table, firstRow, rows, isPlan}
 use Rattle.planfile.specs.Draft.{Draft, noKey, blank}
-use Rattle.planfile.specs.DraftLaws.{Shape}
+use Rattle.planfile.specs.DraftLaws.{Shape, draftOf, due-there}
 use Rattle.planfile.specs.File.{linesFrom, linesOf, fileOf}
 use Rattle.planfile.specs.Reading.{table, held, mostBytes}
 use Rattle.planfile.specs.Verdicts.{RightLines, Verdict}
@@ -18,7 +18,7 @@ use Rattle.planfile.specs.Verdicts.Verdict.{all-right}
 use Rattle.planfile.specs.VerdictsLaws.{verdict, verdict-held}
 use Rattle.planfile.specs.LinesLaws.{lines-shape, lines-count, lines-values, lines-text}
 use Rattle.planfile.specs.PlanValues.{is-plan}
-use Rattle.planfile.specs.FrontLaws.{draftOf, due-there, PartOf, Front, part-whole}
+use Rattle.planfile.specs.FrontLaws.{PartOf, Front, part-whole}
 use Rattle.planfile.specs.FileLaws.{file-gives, file-most, all-lines}
 use Rattle.planfile.specs.NextLineLaws.{asked-part}
 use Rattle.planfile.specs.Trimmed.{trimmed}
@@ -110,9 +110,6 @@ one-plan S T a b e =
 pub held-most : (file : List ℕ) (T : Table) → held file ≡ table T → length file ≤ mostBytes
 held-most file T e = let w = read-is file T e in rw (w .1) (file-most T (w .0))
 
--- What a list holds past the table makes no difference to its being a plan, nor to its file.
-pub trimmed-plan : (T : Table) → isPlan T ≡ true → isPlan (trimmed T) ≡ true
-trimmed-plan T plan = read-is (fileOf T) (trimmed T) (reads-back T plan) .0
-
+-- What a list holds past the table makes no difference to its file.
 pub trimmed-file : (T : Table) → isPlan T ≡ true → fileOf (trimmed T) ≡ fileOf T
 trimmed-file T plan = sym (read-is (fileOf T) (trimmed T) (reads-back T plan) .1)

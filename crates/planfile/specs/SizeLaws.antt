@@ -1,22 +1,18 @@
--- How many bytes a line takes, and a file: a plan's file has no more than a file may have.
+-- How many bytes a line takes at most, and right lines together.
 use Prim.Native.Nat.{ℕ, _+_, _*_, _^_, _≤_, _<_}
-use mathlib.Core.Path.{_≡_, refl}
-use mathlib.Core.Bool.{Bool, true, false, cond}
+use mathlib.Core.Path.{_≡_}
+use mathlib.Core.Bool.{true}
 use mathlib.Core.List.{List, [], _∷_}
 use native.Mathlib.Omega.{arith}
-use borrow.Author.Tests.{eqb-true}
-use lib.Dec.{eqb}
 use lib.ListN.{length, getD, length-append}
 use Rattle.table.specs.Keys.{planKey, processorsKey, tasksKey, taskKey, periodKey, deadlineKey, stepsKey, processorKey, priorityKey, timeKey}
 use Rattle.table.specs.Ranges.{inRange, rangeOf, ranges}
 use Rattle.table.specs.RangesLaws.{within-of}
 use Rattle.table.specs.Table.{Table}
-use Rattle.text.specs.TextLaws.{decimal-few}
+use Rattle.text.specs.NumeralLaws.{decimal-few}
 use Rattle.planfile.specs.Words.{words, word, lineOf}
 use Rattle.planfile.specs.Draft.{Draft, noKey, own, added, placed, following, advanced}
-use Rattle.planfile.specs.Reading.{mostBytes}
-use Rattle.planfile.specs.DraftLaws.{Shape, EachKey, by-key, byKey, none-in-range}
-use Rattle.planfile.specs.FrontLaws.{draftOf, due-there, following-time}
+use Rattle.planfile.specs.DraftLaws.{Shape, EachKey, by-key, byKey, none-in-range, own-most, draftOf, after-row}
 use Rattle.planfile.specs.LineTextLaws.{length-lineOf}
 use Rattle.planfile.specs.LinesLaws.{lines-shape}
 use Rattle.planfile.specs.Verdicts.{RightLines}
@@ -32,7 +28,7 @@ mostLine key = length (word key) + mostDigits key + 2
 
 -- A value in its range takes so many digits, and they are 1 to 9.
 abbrev Takes : ℕ → Type 0
-Takes key = (n v : ℕ) → n ≤ 32 → inRange key n v ≡ true → (v < 10 ^ 9) × (v < 10 ^ mostDigits key) × (0 < mostDigits key)
+Takes key = (n v : ℕ) → n ≤ 33 → inRange key n v ≡ true → (v < 10 ^ 9) × (v < 10 ^ mostDigits key) × (0 < mostDigits key)
 
 takes : EachKey Takes
 unfolding mostDigits rangeOf ranges
@@ -51,27 +47,15 @@ takes = record {
 }
 
 pub value-takes :
-    (key n v : ℕ) → n ≤ 32 → inRange key n v ≡ true
+    (key n v : ℕ) → n ≤ 33 → inRange key n v ≡ true
     → (v < 10 ^ 9) × (v < 10 ^ mostDigits key) × (0 < mostDigits key)
 value-takes key = by-key takes key
 
-pub line-most : (key n v : ℕ) → n ≤ 32 → inRange key n v ≡ true → length (lineOf key v) ≤ mostLine key
+pub line-most : (key n v : ℕ) → n ≤ 33 → inRange key n v ≡ true → length (lineOf key v) ≤ mostLine key
 unfolding mostLine
 line-most key n v h r =
     let w = value-takes key n v h r in
     omega (arith, length-lineOf key v, decimal-few (mostDigits key) v (w .2) (w .1))
-
--- The plan's own numbers are small.
-task-own : (T : Table) → Shape (draftOf taskKey T) → length (T .steps) + 1 ≤ 32
-task-own T s = omega arith
-
-pub own-most : (d : Draft) → Shape d → own d ≤ 32
-unfolding own
-own-most d s = go (eqb (d .key) taskKey) refl
-  where
-    go : (t : Bool) → eqb (d .key) taskKey ≡ t → cond t (length (d .table .steps) + 1) (d .table .processors) ≤ 32
-    go true t = task-own (d .table) (due-there Shape d taskKey (eqb-true _ _ t) s)
-    go false t = omega arith
 
 -- The most bytes that a draft's lines take: 30 for the first three, 51 for each task and 39 for each row, and those of the
 -- task or row that is given.
@@ -89,9 +73,9 @@ grows-time : Grows timeKey
 unfolding bytesSoFar mostLine mostDigits word words advanced placed added
 grows-time T v h =
     let one-more = length-append (T .time) (v ∷ []) in
-    following-time (placed timeKey v T)
+    after-row (placed timeKey v T)
     (λ key. bytesSoFar (draftOf timeKey T) + mostLine timeKey ≡ bytesSoFar (draftOf key (placed timeKey v T)))
-    (omega arith) (omega arith) (omega arith)
+    (λ r. omega arith) (λ r t. omega arith) (λ r t. omega arith)
 
 grows : EachKey Grows
 unfolding bytesSoFar mostLine mostDigits word words advanced placed added following
@@ -123,7 +107,7 @@ lines-bytes file (more {d = d} value behind before line) =
       by-key grows (d .key) (d .table) value h,
     )
 
--- A whole table's lines: at most 32 tasks and 128 rows.
-pub whole-bytes : (T : Table) → Shape (draftOf noKey T) → bytesSoFar (draftOf noKey T) ≤ mostBytes
+-- A whole table's lines, of at most 32 tasks and 128 rows, take at most 6,654.
+pub whole-bytes : (T : Table) → Shape (draftOf noKey T) → bytesSoFar (draftOf noKey T) ≤ 6654
 unfolding bytesSoFar
 whole-bytes T s = omega arith

@@ -7,8 +7,7 @@ use lib.Seq.{take-all}
 use Rattle.facts.specs.Sums.{sum}
 use Rattle.table.specs.Table.{Table, at, firstRow, rows}
 use Rattle.planfile.specs.Draft.{noKey, rowsAsked}
-use Rattle.planfile.specs.DraftLaws.{Shape}
-use Rattle.planfile.specs.FrontLaws.{draftOf}
+use Rattle.planfile.specs.DraftLaws.{Shape, draftOf}
 use Rattle.planfile.specs.DraftValues.{ValuesSoFar}
 use Rattle.planfile.specs.PlanValues.{ValuesRight}
 use Rattle.planfile.specs.Trimmed.{trimmed}

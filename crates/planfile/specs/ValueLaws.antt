@@ -12,7 +12,7 @@ use lib.ListN.{length, getD, drop}
 use lib.Seq.{drop-cons, drop-drop, getD-drop}
 use Rattle.facts.specs.TestsLaws.{and-left, and-right}
 use Rattle.text.specs.Text.{decimal}
-use Rattle.text.specs.TextLaws.{AllDigits, Numeral, valueOf, valueOf-more, numeral-value, numeral-less, decimal-numeral, decimal-value, decimal-few}
+use Rattle.text.specs.NumeralLaws.{AllDigits, Numeral, valueOf, valueOf-more, numeral-value, numeral-less, decimal-numeral, decimal-value, decimal-few}
 use Rattle.planfile.specs.declared.line.Line.the-variants.{Value, Fault}
 use Rattle.planfile.specs.Line.{isDigit, digitsFrom, valueFrom}
 use Rattle.planfile.specs.LineLaws.{digit-yes, digits-lf, digits-more, inside}

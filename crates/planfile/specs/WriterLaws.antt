@@ -7,8 +7,8 @@ use native.Mathlib.Omega.{arith}
 use borrow.Author.Tests.{lt-ltb, le-ltb}
 use lib.ListN.{length, getD, take, length-append, take-append-drop, List·getD-eq-default}
 use Rattle.facts.specs.Filled.{laid}
+use Rattle.table.specs.Keys.{tasksKey}
 use Rattle.table.specs.Table.{Table, at, isPlan}
-use Rattle.table.specs.TableLaws.{Checked}
 use Rattle.text.specs.Text.{Written, appended}
 use Rattle.text.specs.TextLaws.{Holds, holds-none, holds-more, Placed, placed}
 use Rattle.planfile.specs.declared.due.Due.{Due}
@@ -16,21 +16,24 @@ use Rattle.table.specs.declared.refusal.Refusal.the-variants.{NotAPlan, TooShor
 use Rattle.planfile.specs.declared.write.Writing.the-variants.{Bytes, Refused}
 use Rattle.planfile.specs.Words.{lineOf}
 use Rattle.planfile.specs.Draft.{Draft, noKey, blank, own, advanced}
-use Rattle.planfile.specs.DraftLaws.{Shape, EachKey, by-key, at-key, value-most, own-most, linesSoFar, lines-next}
+use Rattle.planfile.specs.DraftLaws.{Shape, EachKey, by-key, value-most, own-most, shape-blank, shape-next, linesSoFar, lines-next, draftOf, due-there}
 use Rattle.planfile.specs.Due.{dueOf, begun, past}
 use Rattle.planfile.specs.DueLaws.{Few, due-blank, due-advanced, due-few}
 use Rattle.planfile.specs.File.{valueFor, linesFrom, linesOf, fileOf}
-use Rattle.planfile.specs.PartLaws.{PartOf, part-blank, part-next, part-accepted, part-left, part-all, part-rows, file-most}
-use Rattle.planfile.specs.Reading.{listsOf}
-use Rattle.planfile.specs.ReaderLaws.{Slots}
+use Rattle.planfile.specs.PlanValues.{ValuesRight, values-right}
+use Rattle.planfile.specs.FrontLaws.{PartOf, part-blank}
+use Rattle.planfile.specs.NextLineLaws.{Ahead, ahead, value-fits, value-few, part-next}
+use Rattle.planfile.specs.FileLaws.{lines-left, lines-all, file-most}
+use Rattle.planfile.specs.Reading.{mostBytes, listsOf}
+use Rattle.planfile.specs.StoreLaws.{Slots}
 use Rattle.planfile.specs.Writing.{WriteOutcome, write}
 use Rattle.planfile.specs.Writer.{valuesDue, valueDue}
 
 -- The value of the line due is the one that follows the draft.
 abbrev Agrees : ℕ → Type 0
 Agrees key =
-    (T U : Table) → Shape (record { key = key; table = U }) → key < noKey
-    → valueFor T (record { key = key; table = U }) ≡ valueDue T (dueOf (record { key = key; table = U }))
+    (T U : Table) → Shape (draftOf key U) → key < noKey
+    → valueFor T (draftOf key U) ≡ valueDue T (dueOf (draftOf key U))
 
 agrees : EachKey Agrees
 unfolding valueFor valueDue valuesDue dueOf
@@ -68,6 +71,7 @@ lines-due d = refl
 pub record Wrote (T : Table) (u : Due) (w : Written) : Type 0 where
   pub draft : Draft
   pub due : u ≡ dueOf draft
+  pub shape : Shape draft
   pub part : PartOf T draft
   pub left : ℕ
   pub lines : linesSoFar draft + left ≡ linesOf T
@@ -80,6 +84,7 @@ unfolding fileOf linesSoFar blank
 wrote-start T l size = record {
   draft = blank;
   due = due-blank;
+  shape = shape-blank;
   part = part-blank T;
   left = linesOf T;
   lines = omega arith;
@@ -89,34 +94,39 @@ wrote-start T l size = record {
 }
 
 -- There are entries for the key due.
-slots-of : (T : Table) → Checked T → (d : Draft) → PartOf T d → Slots (dueOf d) (listsOf (T .period) (T .deadline) (T .steps) (T .processor) (T .priority) (T .time))
+slots-of :
+    (T : Table) (ok : ValuesRight T) (d : Draft) → Shape d → PartOf T d
+    → Slots (dueOf d) (listsOf (T .period) (T .deadline) (T .steps) (T .processor) (T .priority) (T .time))
 unfolding dueOf
-slots-of T ok d p = record {
+slots-of T ok d s p = record {
   tasks = record {
-    period-has = λ e. (let k = at-key d e (p .shape) in omega (arith, k .task-due, task e, ok .tasks .long .one));
-    deadline-has = λ e. (let k = at-key d e (p .shape) in omega (arith, k .task-due, task e, ok .tasks .long .two));
-    steps-has = λ e. (let k = at-key d e (p .shape) in omega (arith, k .task-due, task e, ok .tasks .long .three));
+    period-has = λ e. omega (arith, there e (omega arith) .task, ok .task-lists);
+    deadline-has = λ e. omega (arith, there e (omega arith) .task, ok .task-lists);
+    steps-has = λ e. omega (arith, there e (omega arith) .task, ok .task-lists);
   };
   rows = record {
-    processor-has = λ e. (let k = at-key d e (p .shape) in omega (arith, k .row-due, part-rows ok p, ok .row-lists .one));
-    priority-has = λ e. (let k = at-key d e (p .shape) in omega (arith, k .row-due, part-rows ok p, ok .row-lists .two));
-    time-has = λ e. (let k = at-key d e (p .shape) in omega (arith, k .row-due, part-rows ok p, ok .row-lists .three));
+    processor-has = λ e. omega (arith, there e (omega arith) .row, ok .row-lists);
+    priority-has = λ e. omega (arith, there e (omega arith) .row, ok .row-lists);
+    time-has = λ e. omega (arith, there e (omega arith) .row, ok .row-lists);
   };
 }
   where
-    task : {key : ℕ} → d .key ≡ suc (suc (suc (suc key))) → d .table .tasks ≡ T .tasks
-    task e = p .same .tasks-is (omega arith)
+    there : {key : ℕ} → d .key ≡ key → tasksKey < key → Ahead T ok (draftOf key (d .table))
+    there {key} e h = due-there (Ahead T ok) d key e (ahead T ok d s p (omega arith))
 
 -- Text that has more behind it is no longer than the whole.
-front-fits : (f a b c : List ℕ) → f ≡ a ++ (b ++ c) → length f ≤ 6654 → length a + length b ≤ 8192
+front-fits : (f a b c : List ℕ) → f ≡ a ++ (b ++ c) → length f ≤ mostBytes → length a + length b ≤ mostBytes
 front-fits f a b c e h = omega (arith, ap length e, length-append a (b ++ c), length-append b c)
 
-module _ {T : Table} (ok : Checked T) {u : Due} {w : Written} (s : Wrote T u w) where
+module _ {T : Table} (plan : isPlan T ≡ true) {u : Due} {w : Written} (s : Wrote T u w) where
+  ok : ValuesRight T
+  ok = values-right T plan
+
   pub wrote-few : Few u
-  wrote-few = rw (s .due) (due-few (s .draft) (s .part .shape))
+  wrote-few = rw (s .due) (due-few (s .draft) (s .shape))
 
   pub wrote-slots : Slots u (listsOf (T .period) (T .deadline) (T .steps) (T .processor) (T .priority) (T .time))
-  wrote-slots = rw (s .due) (slots-of T ok (s .draft) (s .part))
+  wrote-slots = rw (s .due) (slots-of T ok (s .draft) (s .shape) (s .part))
 
   key-is : u .key ≡ s .draft .key
   unfolding dueOf
@@ -128,21 +138,21 @@ module _ {T : Table} (ok : Checked T) {u : Due} {w : Written} (s : Wrote T u w) 
   -- The value of the line due is the draft's next,
   value-is : {v : ℕ} → u .key < noKey → v ≡ valueDue T u → v ≡ valueFor T (s .draft)
   value-is h e =
-      e ∙ ap (λ (x : Due). valueDue T x) (s .due) ∙ sym (value-due T (s .draft) (s .part .shape) (key-due h))
+      e ∙ ap (λ (x : Due). valueDue T x) (s .due) ∙ sym (value-due T (s .draft) (s .shape) (key-due h))
 
   -- and in its range;
   pub wrote-value : {v : ℕ} → u .key < noKey → v ≡ valueDue T u → v ≤ 1000000000
   wrote-value h e =
       let d = s .draft in
-      let r = part-accepted ok (s .part) (key-due h) .range in
-      omega (arith, value-is h e, value-most (d .key) (own d) (valueFor T d) r, own-most d (s .part .shape))
+      let r = value-fits T ok d (s .shape) (s .part) (key-due h) in
+      omega (arith, value-is h e, value-most (d .key) (own d) (valueFor T d) r, own-most d (s .shape))
 
   lines-are : linesDue u ≡ linesSoFar (s .draft)
   lines-are = ap (λ (x : Due). linesDue x) (s .due) ∙ sym (lines-due (s .draft))
 
   -- its line is left,
   pub wrote-left : u .key < noKey → linesDue u < linesOf T
-  wrote-left h = omega (arith, lines-are, part-left ok (s .part) (key-due h))
+  wrote-left h = omega (arith, lines-are, lines-left T ok (s .draft) (s .shape) (s .part) (key-due h))
 
   -- counts,
   pub wrote-line : (v : ℕ) → u .key < noKey → linesDue (past u v) ≡ suc (linesDue u)
@@ -161,26 +171,30 @@ module _ {T : Table} (ok : Checked T) {u : Due} {w : Written} (s : Wrote T u w) 
       let same : v ≡ value = value-is h e in
       let next = lineOf (d .key) value in
       let line : lineOf (u .key) v ≡ next = ap (λ (k : ℕ). lineOf k v) key-is ∙ ap (λ (k : ℕ). lineOf (d .key) k) same in
-      let some : s .left ≡ suc (s .left - 1) = omega (arith, s .lines, part-left ok (s .part) (key-due h)) in
+      let some : s .left ≡ suc (s .left - 1) = omega (arith, s .lines, lines-left T ok d (s .shape) (s .part) (key-due h)) in
       let rest : fileOf T ≡ s .done ++ (next ++ linesFrom (s .left - 1) T (advanced d value)) =
       s .rest ∙ ap (λ (n : ℕ). s .done ++ linesFrom n T d) some in
       record {
         draft = advanced d value;
         due = ap (λ (y : Due). past y v) (s .due) ∙ ap (λ (k : ℕ). past (dueOf d) k) same ∙ sym (due-advanced d value);
-        part = part-next ok (s .part) (key-due h);
+        shape = shape-next d value (s .shape) (record {
+          range = value-fits T ok d (s .shape) (s .part) (key-due h);
+          rows = value-few T ok d (s .shape) (s .part);
+        });
+        part = part-next T ok d (s .shape) (s .part);
         left = s .left - 1;
         lines = omega (arith, s .lines, some, lines-next d value (key-due h));
         done = s .done ++ next;
         rest = rest ∙ sym (append-assoc (s .done) next (linesFrom (s .left - 1) T (advanced d value)));
         holds = holds-more next (s .holds) (f ∙ ap (λ (b : List ℕ). appended b (w .list) (w .end)) line)
-            (front-fits (fileOf T) (s .done) next (linesFrom (s .left - 1) T (advanced d value)) rest (file-most ok));
+            (front-fits (fileOf T) (s .done) next (linesFrom (s .left - 1) T (advanced d value)) rest (file-most T plan));
       }
 
   -- until the whole file is there.
   pub wrote-end : noKey ≤ u .key → Holds (fileOf T) 8192 w
   unfolding linesFrom
   wrote-end h =
-      let all = part-all ok (s .part) (omega (arith, key-is, s .part .shape .key-most)) in
+      let all = lines-all T ok (s .draft) (s .shape) (s .part) (omega (arith, key-is, s .shape .key-most)) in
       let none : s .left ≡ 0 = omega (arith, s .lines) in
       let whole : fileOf T ≡ s .done = s .rest ∙ ap (λ (n : ℕ). s .done ++ linesFrom n T (s .draft)) none ∙ append-nil (s .done) in
       rw whole (s .holds)

@@ -1,11 +1,11 @@
 // One line of a plan file.
 
-use crate::words::append_word;
-use text::append;
+use table::keys;
 ghost use mathlib.Core.Path.{_≡_};
 ghost use Prim.Native.Nat.{_≤_, _<_, _+_, _-_};
 ghost use lib.ListN.{getD, length};
 ghost use Rattle.planfile.specs.Line.{digitsFrom, lineAt, stands, valueFrom};
+ghost use Rattle.planfile.specs.LineLaws.{lineHeaded};
 
 // What stands in a line: its value and where the next line starts, or a fault of form.
 pub enum Line {
@@ -20,13 +20,30 @@ pub fn line_at(file: &[u8], place: usize, key: usize) -> Line
     if file.len() <= place {
         return Line::Fault;
     }
-    let mut head = [0u8; 11];
-    let behind_word = append_word(&mut head, 0, key);
-    let end = append(&mut head, behind_word, b"=");
-    if !stands_at(file, place, &head[..end]) {
+    match key {
+        keys::PLAN => headed(file, place, b"plan="),
+        keys::PROCESSORS => headed(file, place, b"processors="),
+        keys::TASKS => headed(file, place, b"tasks="),
+        keys::TASK => headed(file, place, b"task="),
+        keys::PERIOD => headed(file, place, b"period="),
+        keys::DEADLINE => headed(file, place, b"deadline="),
+        keys::STEPS => headed(file, place, b"steps="),
+        keys::PROCESSOR => headed(file, place, b"processor="),
+        keys::PRIORITY => headed(file, place, b"priority="),
+        keys::TIME => headed(file, place, b"time="),
+        _ => headed(file, place, b"="),
+    }
+}
+
+// The line that begins with these bytes, from the place on: then a value and an LF.
+fn headed(file: &[u8], place: usize, head: &[u8]) -> Line
+    requires { ⌜ (place ≤ length (now file)) × (length (now head) ≤ 11) ⌝ }
+    ensures { λ r. ⌜ r ≡ lineHeaded (now (file .entry)) place (now (head .entry)) ⌝ }
+{
+    if !stands_at(file, place, head) {
         return Line::Fault;
     }
-    value_at(file, place + end)
+    value_at(file, place + head.len())
 }
 
 // Whether the bytes stand in the file from the place on.

@@ -7,6 +7,7 @@ use crate::due::own_number;
 use crate::line::Line;
 use crate::line::line_at;
 use table::keys;
+use table::plan::long_enough;
 use table::ranges::in_range;
 use table::refusal::Refusal;
 ghost use mathlib.Core.Path.{_≡_};
@@ -15,12 +16,13 @@ ghost use lib.Dec.{eqb};
 ghost use lib.ListN.{length, take};
 ghost use Rattle.facts.specs.Filled.{laid};
 ghost use Rattle.table.specs.Keys.{deadlineKey, periodKey, priorityKey, processorKey, stepsKey, timeKey};
-ghost use Rattle.table.specs.Table.{longEnough};
 ghost use Rattle.planfile.specs.DueLaws.{Few};
 ghost use Rattle.planfile.specs.Line.{lineAt};
 ghost use Rattle.planfile.specs.Reading.{ReadOutcome, held, listsOf, read, readOf};
 ghost use Rattle.planfile.specs.Reader.{asksTooMany, judgement, storedIf};
-ghost use Rattle.planfile.specs.ReaderLaws.{FoundIn, Roomy, RowSlots, Sized, TaskSlots};
+ghost use Rattle.planfile.specs.ReaderLaws.{FoundIn};
+ghost use Rattle.planfile.specs.ReadWriteLaws.{Roomy};
+ghost use Rattle.planfile.specs.StoreLaws.{RowSlots, Sized, TaskSlots};
 
 // The counts of a table.
 pub struct Counts {
@@ -185,19 +187,6 @@ fn lay(from: &[u64], count: usize, over: &mut [u64])
     }
 }
 
-// Whether three lists have room for so many entries.
-fn has_room(count: usize, a: &[u64], b: &[u64], c: &[u64]) -> bool
-    ensures { λ r. ⌜ r ≡ longEnough count (now (a .entry)) (now (b .entry)) (now (c .entry)) ⌝ }
-{
-    if a.len() < count {
-        return false;
-    }
-    if b.len() < count {
-        return false;
-    }
-    count <= c.len()
-}
-
 // Reads the file's table into lists that have room for any.
 fn read_table(
     file: &[u8],
@@ -252,10 +241,10 @@ pub fn read(
     ensures { λ r. ⌜ _≡_ {A = ReadOutcome} (record { answer = r; lists = listsOf (now (period .exit)) (now (deadline .exit)) (now (steps .exit)) (now (processor .exit)) (now (priority .exit)) (now (time .exit)) })
         (read (now (file .entry)) (listsOf (now (period .entry)) (now (deadline .entry)) (now (steps .entry)) (now (processor .entry)) (now (priority .entry)) (now (time .entry)))) ⌝ }
 {
-    if !has_room(MOST_ROWS as usize, processor, priority, time) {
+    if !long_enough(MOST_ROWS as usize, processor, priority, time) {
         return Reading::Refused(Refusal::TooShort(MOST_ROWS));
     }
-    if !has_room(MOST_TASKS as usize, period, deadline, steps) {
+    if !long_enough(MOST_TASKS as usize, period, deadline, steps) {
         return Reading::Refused(Refusal::TooShort(MOST_TASKS));
     }
     if MOST_BYTES < file.len() {

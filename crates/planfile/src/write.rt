@@ -19,7 +19,7 @@ ghost use Rattle.planfile.specs.Words.{lineOf};
 ghost use Rattle.planfile.specs.DueLaws.{Few};
 ghost use Rattle.planfile.specs.File.{fileOf};
 ghost use Rattle.planfile.specs.Reading.{listsOf};
-ghost use Rattle.planfile.specs.ReaderLaws.{Slots};
+ghost use Rattle.planfile.specs.StoreLaws.{Slots};
 ghost use Rattle.planfile.specs.Writer.{valueDue};
 ghost use Rattle.planfile.specs.Writing.{WriteOutcome, write};
 

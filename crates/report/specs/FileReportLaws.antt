@@ -16,7 +16,8 @@ use Rattle.planfile.specs.declared.read.Reading.{Reading}
 use Rattle.planfile.specs.declared.read.Reading.the-variants.{Read, Refused}
 use Rattle.planfile.specs.Reading as reader
 use Rattle.planfile.specs.Reading.{Held, table, refusal, held, mostBytes, Lists, ReadOutcome, laidOver, readOf}
-use Rattle.planfile.specs.Answered.{tableIn, Roomy}
+use Rattle.planfile.specs.Answered.{tableIn}
+use Rattle.planfile.specs.ReadWriteLaws.{Roomy}
 use Rattle.planfile.specs.TrimmedLaws.{Full, full-of}
 use Rattle.planfile.specs.LongerLaws.{longer-plan, laid-part}
 use Rattle.planfile.specs.RoundTrip.{held-shape, read-is}

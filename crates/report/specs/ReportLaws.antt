@@ -10,7 +10,8 @@ use lib.Signed.{ltZ}
 use Rattle.facts.specs.Filled.{joined}
 use Rattle.facts.specs.FilledLaws.{joined-none, joined-more, joined-ext, joined-most}
 use Rattle.text.specs.Text.{Written, appended, bytesOf, decimal, line, minusLine}
-use Rattle.text.specs.TextLaws.{appended-none, appended-then, Placed, placed, decimal-few, length-line, length-minusLine}
+use Rattle.text.specs.TextLaws.{appended-none, appended-then, Placed, placed, length-line, length-minusLine}
+use Rattle.text.specs.NumeralLaws.{decimal-few}
 use Rattle.report.specs.Report.{Figures, reportOf, rowLines, slackLine, taskLines, processorLines}
 
 -- Parts appended one after another: none yet, and one more.

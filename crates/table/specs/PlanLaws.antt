@@ -1,15 +1,15 @@
 -- What the rows of a plan are, as functions of their number.
-use Prim.Native.Nat.{ℕ, zero, suc, pred, _+_, _*_, _-_, _≤_, _<_}
-use mathlib.Core.Path.{_≡_, refl, sym, _∙_, ap}
-use mathlib.Core.Bool.{Bool, true, false, cond}
+use Prim.Native.Nat.{ℕ, zero, suc, _+_, _-_, _≤_, _<_}
+use mathlib.Core.Path.{_≡_, sym, _∙_, ap}
+use mathlib.Core.Bool.{true, false}
 use native.Mathlib.Omega.{arith}
-use native.Mathlib.Decide.{decLt, decLe}
-use borrow.Author.Tests.{le-leb, lt-leb, eq-eqb, ne-eqb, eqb-false}
-use lib.Dec.{leb, eqb}
-use Rattle.facts.specs.Sums.{sum, sumIf}
-use Rattle.facts.specs.SumsLaws.{sum-none, sum-suc, sum-part, sum-has, sumIf-none, sumIf-suc}
-use Rattle.table.specs.Table.{Table, at, firstRow, rows, isPlan}
-use Rattle.table.specs.TableLaws.{Checked, checked}
+use native.Mathlib.Decide.{decLt}
+use borrow.Author.Tests.{le-leb, lt-leb, eq-eqb, eqb-false}
+use lib.Dec.{leb}
+use Rattle.facts.specs.Sums.{sumIf}
+use Rattle.facts.specs.SumsLaws.{sum-none, sum-suc, sum-part, sumIf-none, sumIf-suc}
+use Rattle.table.specs.Table.{Table, at, firstRow, rows}
+use Rattle.table.specs.TableLaws.{Checked}
 use Rattle.table.specs.Plan.{Plan, taskOf, cost, planOf}
 
 -- Periods and costs are above 0, row 0 is first, and a row that isn't first has the period of the row before it.

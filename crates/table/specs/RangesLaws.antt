@@ -1,7 +1,7 @@
 -- What it says that a value is in the range of its key.
 use Prim.Native.Nat.{ℕ, _≤_}
 use mathlib.Core.Path.{_≡_}
-use mathlib.Core.Bool.{true, _&&_}
+use mathlib.Core.Bool.{true}
 use borrow.Author.Tests.{leb-true, le-leb}
 use lib.Dec.{leb}
 use Rattle.facts.specs.TestsLaws.{and-left, and-right, and-true}

@@ -1,10 +1,10 @@
 -- A table and the test that it is a plan (document 01, "The plan on paper").
-use Prim.Native.Nat.{ℕ, suc}
-use mathlib.Core.Bool.{Bool, cond, _&&_}
+use Prim.Native.Nat.{ℕ}
+use mathlib.Core.Bool.{Bool, _&&_}
 use mathlib.Core.List.{List}
-use lib.Dec.{leb, eqb}
+use lib.Dec.{leb}
 use lib.ListN.{length, getD}
-use Rattle.facts.specs.Sums.{sum, sumIf}
+use Rattle.facts.specs.Sums.{sum}
 use Rattle.facts.specs.Tests.{all}
 use Rattle.table.specs.Keys.{processorsKey, tasksKey, periodKey, deadlineKey, stepsKey, processorKey, priorityKey, timeKey}
 use Rattle.table.specs.Ranges.{inRange}

@@ -1,13 +1,11 @@
 -- What the test "is a plan" says of a table.
-use Prim.Native.Nat.{ℕ, suc, _≤_, _<_, _+_, _*_}
-use mathlib.Core.Path.{_≡_, refl, sym, _∙_}
-use mathlib.Core.Bool.{Bool, true, false, _&&_}
+use Prim.Native.Nat.{ℕ, _≤_, _<_}
+use mathlib.Core.Path.{_≡_}
+use mathlib.Core.Bool.{Bool, true, _&&_}
 use mathlib.Core.List.{List}
-use native.Mathlib.Omega.{arith}
 use borrow.Author.Tests.{leb-true, le-leb}
 use lib.Dec.{leb}
 use lib.ListN.{length}
-use Rattle.facts.specs.Tests.{all}
 use Rattle.facts.specs.TestsLaws.{and-left, and-right, and-true, all-at}
 use Rattle.table.specs.Keys.{processorsKey, tasksKey, periodKey, deadlineKey, stepsKey, processorKey, priorityKey, timeKey}
 use Rattle.table.specs.Ranges.{inRange, rangeOf, ranges}

@@ -1,12 +1,12 @@
 -- The walk over a plan's rows, task by task.
 use Prim.Native.Nat.{ℕ, suc, _+_, _≤_, _<_}
-use mathlib.Core.Path.{_≡_, refl, sym, _∙_, ap}
+use mathlib.Core.Path.{_≡_, sym, ap}
 use native.Mathlib.Omega.{arith, by-contra}
 use native.Mathlib.Numerals.{add-one}
 use lib.Dec.{eqb}
 use Rattle.table.specs.Table.{Table, at, firstRow, rows}
 use Rattle.table.specs.TableLaws.{Checked}
-use Rattle.table.specs.Plan.{taskOf, planOf}
+use Rattle.table.specs.Plan.{planOf}
 use Rattle.table.specs.PlanLaws.{Of, task-is, first-row-suc, first-row-none, first-row-mono}
 
 -- The walk stands before a row at or after the first row of a task, start, and at most just past the task's rows.

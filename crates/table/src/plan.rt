@@ -14,7 +14,8 @@ ghost use Rattle.table.specs.View.{Viewed, viewed};
 // At most so many rows in all.
 const MOST_ROWS: u64 = 128;
 
-fn long_enough(n: usize, a: &[u64], b: &[u64], c: &[u64]) -> bool
+// Whether three lists have so many entries at least.
+pub fn long_enough(n: usize, a: &[u64], b: &[u64], c: &[u64]) -> bool
     ensures { λ r. ⌜ r ≡ longEnough n (now (a .entry)) (now (b .entry)) (now (c .entry)) ⌝ }
 {
     if a.len() < n {

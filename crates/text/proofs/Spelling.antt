@@ -1,12 +1,12 @@
 -- Spelling a number into a list, its last digit first.
-use Prim.Native.Nat.{ℕ, zero, suc, _+_, _-_, _/_, _%_, _^_, _≤_, _<_}
-use mathlib.Core.Path.{_≡_, refl, sym, _∙_}
+use Prim.Native.Nat.{ℕ, suc, _+_, _-_, _/_, _%_, _^_, _≤_, _<_}
+use mathlib.Core.Path.{_≡_, sym, _∙_}
 use mathlib.Core.List.{List, [], _∷_, _++_, append-assoc, append-nil}
 use native.Mathlib.Omega.{arith}
 use lib.ListN.{length, set, take, drop, length-set, drop-of-length-le}
 use lib.Seq.{length-take-le, drop-at, set-split}
 use Rattle.text.specs.Text.{digits, decimal}
-use Rattle.text.specs.TextLaws.{digits-one, digits-more, tenth, tenth-some}
+use Rattle.text.specs.NumeralLaws.{digits-one, digits-more, tenth, tenth-some}
 
 -- The text is what stands behind the i-th place, with the digits of n before it: n is left to be spelt, up to that place.
 pub record Spelling (text l : List ℕ) (i n : ℕ) : Type 0 where

@@ -1,5 +1,5 @@
 -- `text::append` meets its contract: at the loop's head, appending the bytes from the i-th on to the list as it is gives the whole outcome.
-use Prim.Native.Nat.{ℕ, _≤_, _<_, _-_}
+use Prim.Native.Nat.{ℕ, _≤_, _-_}
 use mathlib.Core.Path.{_≡_, refl, sym, _∙_, ap}
 use mathlib.Core.List.{List}
 use lib.ListN.{length, drop, length-set, drop-of-length-le}

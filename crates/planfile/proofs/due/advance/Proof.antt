@@ -1,6 +1,6 @@
 -- `planfile::due::advance` meets its contract: what is due follows the value of each key, and then the key.
 use Prim.Native.Nat.{ℕ}
-use mathlib.Core.Path.{_≡_, refl, sym, _∙_, ap}
+use mathlib.Core.Path.{_≡_, sym, _∙_, ap}
 use mathlib.Core.Logic.{⊎-elim}
 use borrow.Author.Tests.{ne-eqb}
 use Rattle.planfile.specs.Due.{counted, keyed, past}

@@ -1,73 +1,165 @@
--- `planfile::line::line_at` meets its contract: the key's word and '=' are put together first, and the line begins with them or is a fault.
-use mathlib.Core.Path.{refl, sym, _∙_}
-use borrow.Author.Tests.{not-true, not-false}
-use Rattle.planfile.specs.LineLaws.{Beginning, head-holds, line-past, line-fault, line-value}
-use native.Mathlib.Omega.{arith}
+-- `planfile::line::line_at` meets its contract: what each line begins with is the word of its key and '='.
+use mathlib.Core.Path.{sym, _∙_, ap}
+use mathlib.Core.List.{List, [], _∷_, _++_}
+use Prim.Native.Nat.{ℕ}
+use Rattle.planfile.specs.Words.{words, word}
+use Rattle.planfile.specs.DraftLaws.{none-below}
+use Rattle.planfile.specs.LineLaws.{lineHeaded, line-past, line-headed, line-named, no-word}
 use borrow.Author.Needs.{needs}
 use Rattle.planfile.proofs.line.line_at.Statement.{statement}
 use Rattle.planfile.proofs.line.line_at.Tie as tie
 
--- The bytes that the line begins with, at the front of the list.
-beginning : (c : tie.After-append) → Beginning (c .before .before .before .before .before .before .before .before .args .key) (record { list = c .append .last .0; end = c .append .result })
-beginning c = head-holds _ _ refl (c .before .before .before .before .append-word .ensures) (c .append .ensures)
-
 returns : tie.Need-returns
 returns c = sym (line-past _ _ _ (c .if1 .taken))
 
-slice-aggregate-append-word : tie.Need-slice-aggregate-append-word
-slice-aggregate-append-word c = search needs
+slice-aggregate-headed : tie.Need-slice-aggregate-headed
+slice-aggregate-headed c = search needs
 
-append-word-requires : tie.Need-append-word-requires
-append-word-requires c κs = search needs
+headed-requires : tie.Need-headed-requires
+headed-requires c κs = search needs
 
-slice-aggregate-append : tie.Need-slice-aggregate-append
-slice-aggregate-append c = search needs
+slice-aggregate-headed-2 : tie.Need-slice-aggregate-headed-2
+slice-aggregate-headed-2 c = search needs
 
-slice-aggregate-append-2 : tie.Need-slice-aggregate-append-2
-slice-aggregate-append-2 c = search needs
+headed-requires-2 : tie.Need-headed-requires-2
+headed-requires-2 c κs = search needs
 
-append-requires : tie.Need-append-requires
-append-requires c κs = search needs
+slice-aggregate-headed-3 : tie.Need-slice-aggregate-headed-3
+slice-aggregate-headed-3 c = search needs
 
-array-share-prefix-head : tie.Need-array-share-prefix-head
-array-share-prefix-head c = omega (arith, (beginning (c .before)) .end-most)
+headed-requires-3 : tie.Need-headed-requires-3
+headed-requires-3 c κs = search needs
 
-slice-aggregate-stands-at : tie.Need-slice-aggregate-stands-at
-slice-aggregate-stands-at c = sym (beginning (c .before .before) .length-front)
+slice-aggregate-headed-4 : tie.Need-slice-aggregate-headed-4
+slice-aggregate-headed-4 c = search needs
 
-stands-at-requires : tie.Need-stands-at-requires
-stands-at-requires c κs = let b = beginning (c .before .before) in omega (arith, b .length-front, b .end-most)
+headed-requires-4 : tie.Need-headed-requires-4
+headed-requires-4 c κs = search needs
+
+slice-aggregate-headed-5 : tie.Need-slice-aggregate-headed-5
+slice-aggregate-headed-5 c = search needs
+
+headed-requires-5 : tie.Need-headed-requires-5
+headed-requires-5 c κs = search needs
+
+slice-aggregate-headed-6 : tie.Need-slice-aggregate-headed-6
+slice-aggregate-headed-6 c = search needs
+
+headed-requires-6 : tie.Need-headed-requires-6
+headed-requires-6 c κs = search needs
+
+slice-aggregate-headed-7 : tie.Need-slice-aggregate-headed-7
+slice-aggregate-headed-7 c = search needs
+
+headed-requires-7 : tie.Need-headed-requires-7
+headed-requires-7 c κs = search needs
+
+slice-aggregate-headed-8 : tie.Need-slice-aggregate-headed-8
+slice-aggregate-headed-8 c = search needs
+
+headed-requires-8 : tie.Need-headed-requires-8
+headed-requires-8 c κs = search needs
+
+slice-aggregate-headed-9 : tie.Need-slice-aggregate-headed-9
+slice-aggregate-headed-9 c = search needs
+
+headed-requires-9 : tie.Need-headed-requires-9
+headed-requires-9 c κs = search needs
+
+slice-aggregate-headed-10 : tie.Need-slice-aggregate-headed-10
+slice-aggregate-headed-10 c = search needs
+
+headed-requires-10 : tie.Need-headed-requires-10
+headed-requires-10 c κs = search needs
+
+slice-aggregate-headed-11 : tie.Need-slice-aggregate-headed-11
+slice-aggregate-headed-11 c = search needs
+
+headed-requires-11 : tie.Need-headed-requires-11
+headed-requires-11 c κs = search needs
 
 returns-2 : tie.Need-returns-2
-returns-2 c =
-    let there = sym (c .before .stands-at .ensures) ∙ not-true _ (c .if2 .taken) in
-    sym (line-fault _ _ (beginning (c .before .before .before .before)) there)
-
-add-value-at : tie.Need-add-value-at
-add-value-at c = omega (arith, (beginning (c .before .before .before .before)) .end-most)
-
-value-at-requires : tie.Need-value-at-requires
-value-at-requires c κs = omega (arith, (beginning (c .before .before .before .before)) .end-most)
+unfolding word words
+returns-2 c = line-named _ _ (c .before .before .match .keys1) (c .headed .ensures)
 
 returns-3 : tie.Need-returns-3
-returns-3 c =
-    let there = sym (c .before .before .stands-at .ensures) ∙ not-false _ (c .before .if2 .left) in
-    c .value-at .ensures ∙ sym (line-value _ _ (beginning (c .before .before .before .before .before)) there)
+unfolding word words
+returns-3 c = line-named _ _ (c .before .before .match .keys2) (c .headed2 .ensures)
+
+returns-4 : tie.Need-returns-4
+unfolding word words
+returns-4 c = line-named _ _ (c .before .before .match .keys3) (c .headed3 .ensures)
+
+returns-5 : tie.Need-returns-5
+unfolding word words
+returns-5 c = line-named _ _ (c .before .before .match .keys4) (c .headed4 .ensures)
+
+returns-6 : tie.Need-returns-6
+unfolding word words
+returns-6 c = line-named _ _ (c .before .before .match .keys5) (c .headed5 .ensures)
+
+returns-7 : tie.Need-returns-7
+unfolding word words
+returns-7 c = line-named _ _ (c .before .before .match .keys6) (c .headed6 .ensures)
+
+returns-8 : tie.Need-returns-8
+unfolding word words
+returns-8 c = line-named _ _ (c .before .before .match .keys7) (c .headed7 .ensures)
+
+returns-9 : tie.Need-returns-9
+unfolding word words
+returns-9 c = line-named _ _ (c .before .before .match .keys8) (c .headed8 .ensures)
+
+returns-10 : tie.Need-returns-10
+unfolding word words
+returns-10 c = line-named _ _ (c .before .before .match .keys9) (c .headed9 .ensures)
+
+returns-11 : tie.Need-returns-11
+unfolding word words
+returns-11 c = line-named _ _ (c .before .before .match .keys10) (c .headed10 .ensures)
+
+returns-12 : tie.Need-returns-12
+returns-12 c =
+    let a = c .before .before .before .before .before .args in
+    c .headed11 .ensures
+    ∙ ap (λ (w : List ℕ). lineHeaded (a .file .now) (a .place) (w ++ (61 ∷ []))) (sym (no-word (a .key) (none-below 10 (a .key) (c .before .before .match .rest))))
+    ∙ line-headed _ _ _
 
 pub line-at-spec : {M : Type 1} → statement M
 line-at-spec =
     tie.close
     (tie.spec
     returns
-    slice-aggregate-append-word
-    append-word-requires
-    slice-aggregate-append
-    slice-aggregate-append-2
-    append-requires
-    array-share-prefix-head
-    slice-aggregate-stands-at
-    stands-at-requires
+    slice-aggregate-headed
+    headed-requires
+    slice-aggregate-headed-2
+    headed-requires-2
+    slice-aggregate-headed-3
+    headed-requires-3
+    slice-aggregate-headed-4
+    headed-requires-4
+    slice-aggregate-headed-5
+    headed-requires-5
+    slice-aggregate-headed-6
+    headed-requires-6
+    slice-aggregate-headed-7
+    headed-requires-7
+    slice-aggregate-headed-8
+    headed-requires-8
+    slice-aggregate-headed-9
+    headed-requires-9
+    slice-aggregate-headed-10
+    headed-requires-10
+    slice-aggregate-headed-11
+    headed-requires-11
     returns-2
-    add-value-at
-    value-at-requires
-    returns-3)
+    returns-3
+    returns-4
+    returns-5
+    returns-6
+    returns-7
+    returns-8
+    returns-9
+    returns-10
+    returns-11
+    returns-12)

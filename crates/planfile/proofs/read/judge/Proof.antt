@@ -6,7 +6,7 @@ use Rattle.planfile.specs.declared.line.Line.the-variants.{Value}
 use Rattle.planfile.specs.Line.{lineAt}
 use Rattle.planfile.specs.Due.{ownNumber}
 use Rattle.planfile.specs.DueLaws.{value-few}
-use Rattle.planfile.specs.ReaderLaws.{judge-fault, judge-range, judge-rows, judge-right}
+use Rattle.planfile.specs.JudgeLaws.{judge-fault, judge-range, judge-rows, judge-right}
 use borrow.Author.Needs.{needs}
 use Rattle.planfile.proofs.read.judge.Statement.{statement}
 use Rattle.planfile.proofs.read.judge.Tie as tie

@@ -7,8 +7,8 @@ use borrow.Author.Needs.{needs}
 use Rattle.planfile.proofs.read.read.Statement.{statement}
 use Rattle.planfile.proofs.read.read.Tie as tie
 
-has-room-requires : tie.Need-has-room-requires
-has-room-requires c κs = search needs
+long-enough-requires : tie.Need-long-enough-requires
+long-enough-requires c κs = search needs
 
 same-length : tie.Need-same-length
 same-length c = search needs
@@ -21,10 +21,10 @@ same-length-3 c = search needs
 
 returns : tie.Need-returns
 unfolding read
-returns c = rw (sym (c .before .has-room .ensures) ∙ not-true _ (c .if1 .taken))
+returns c = rw (sym (c .before .long-enough .ensures) ∙ not-true _ (c .if1 .taken))
 
-has-room-requires-2 : tie.Need-has-room-requires-2
-has-room-requires-2 c κs = search needs
+long-enough-requires-2 : tie.Need-long-enough-requires-2
+long-enough-requires-2 c κs = search needs
 
 same-length-4 : tie.Need-same-length-4
 same-length-4 c = search needs
@@ -46,7 +46,7 @@ same-length-9 c = search needs
 
 returns-2 : tie.Need-returns-2
 unfolding read
-returns-2 c = rw (sym (c .before .before .before .before .before .before .has-room .ensures) ∙ not-false _ (c .before .before .before .before .before .if1 .left), sym (c .before .has-room2 .ensures) ∙ not-true _ (c .if2 .taken))
+returns-2 c = rw (sym (c .before .before .before .before .before .before .long-enough .ensures) ∙ not-false _ (c .before .before .before .before .before .if1 .left), sym (c .before .long-enough2 .ensures) ∙ not-true _ (c .if2 .taken))
 
 same-length-10 : tie.Need-same-length-10
 same-length-10 c = search needs
@@ -68,10 +68,10 @@ same-length-15 c = search needs
 
 returns-3 : tie.Need-returns-3
 unfolding read
-returns-3 c = rw (sym (c .before .before .before .before .before .before .before .has-room .ensures) ∙ not-false _ (c .before .before .before .before .before .before .if1 .left), sym (c .before .before .has-room2 .ensures) ∙ not-false _ (c .before .if2 .left), lt-ltb _ _ (c .if3 .taken))
+returns-3 c = rw (sym (c .before .before .before .before .before .before .before .long-enough .ensures) ∙ not-false _ (c .before .before .before .before .before .before .if1 .left), sym (c .before .before .long-enough2 .ensures) ∙ not-false _ (c .before .if2 .left), lt-ltb _ _ (c .if3 .taken))
 
 read-table-requires : tie.Need-read-table-requires
-read-table-requires c κs = record { tasks = long-of _ _ _ _ (sym (c .before .before .before .before .before .before .before .before .has-room2 .ensures) ∙ not-false _ (c .before .before .before .before .before .before .before .if2 .left)); rows = long-of _ _ _ _ (sym (c .before .before .before .before .before .before .before .before .before .before .before .before .before .has-room .ensures) ∙ not-false _ (c .before .before .before .before .before .before .before .before .before .before .before .before .if1 .left)) }
+read-table-requires c κs = record { tasks = long-of _ _ _ _ (sym (c .before .before .before .before .before .before .before .before .long-enough2 .ensures) ∙ not-false _ (c .before .before .before .before .before .before .before .if2 .left)); rows = long-of _ _ _ _ (sym (c .before .before .before .before .before .before .before .before .before .before .before .before .before .long-enough .ensures) ∙ not-false _ (c .before .before .before .before .before .before .before .before .before .before .before .before .if1 .left)) }
 
 same-length-16 : tie.Need-same-length-16
 same-length-16 c = search needs
@@ -93,18 +93,18 @@ same-length-21 c = search needs
 
 returns-4 : tie.Need-returns-4
 unfolding read
-returns-4 c = rw (sym (c .before .before .before .before .before .before .before .before .before .before .before .before .before .before .before .before .before .before .before .before .before .before .before .before .before .before .has-room .ensures) ∙ not-false _ (c .before .before .before .before .before .before .before .before .before .before .before .before .before .before .before .before .before .before .before .before .before .before .before .before .before .if1 .left), sym (c .before .before .before .before .before .before .before .before .before .before .before .before .before .before .before .before .before .before .before .before .before .has-room2 .ensures) ∙ not-false _ (c .before .before .before .before .before .before .before .before .before .before .before .before .before .before .before .before .before .before .before .before .if2 .left), le-ltb _ _ (c .before .before .before .before .before .before .before .before .before .before .before .before .before .before .before .before .before .before .before .if3 .left)) (c .before .before .before .before .before .before .before .before .before .before .before .before .read-table .ensures)
+returns-4 c = rw (sym (c .before .before .before .before .before .before .before .before .before .before .before .before .before .before .before .before .before .before .before .before .before .before .before .before .before .before .long-enough .ensures) ∙ not-false _ (c .before .before .before .before .before .before .before .before .before .before .before .before .before .before .before .before .before .before .before .before .before .before .before .before .before .if1 .left), sym (c .before .before .before .before .before .before .before .before .before .before .before .before .before .before .before .before .before .before .before .before .before .long-enough2 .ensures) ∙ not-false _ (c .before .before .before .before .before .before .before .before .before .before .before .before .before .before .before .before .before .before .before .before .if2 .left), le-ltb _ _ (c .before .before .before .before .before .before .before .before .before .before .before .before .before .before .before .before .before .before .before .if3 .left)) (c .before .before .before .before .before .before .before .before .before .before .before .before .read-table .ensures)
 
 pub read-spec : {M : Type 1} → statement M
 read-spec =
     tie.close
     (tie.spec
-    has-room-requires
+    long-enough-requires
     same-length
     same-length-2
     same-length-3
     returns
-    has-room-requires-2
+    long-enough-requires-2
     same-length-4
     same-length-5
     same-length-6

@@ -6,7 +6,8 @@ use Rattle.planfile.specs.declared.read.Judged.the-variants.{Right}
 use Rattle.planfile.specs.Line.{lineAt}
 use Rattle.planfile.specs.Reading.{listsOf}
 use Rattle.planfile.specs.Reader.{judgement}
-use Rattle.planfile.specs.ReaderLaws.{Reached, reached-start, reached-same, reached-few, reached-slots, reached-behind, reached-value, reached-refused, reached-next, reached-more, stored-lists, found-refused, found-table}
+use Rattle.planfile.specs.ReaderLaws.{Reached, reached-start, reached-same, reached-few, reached-slots, reached-behind, reached-value, reached-refused, reached-next, reached-more, found-refused, found-table}
+use Rattle.planfile.specs.StoreLaws.{stored-lists}
 use native.Mathlib.Omega.{arith}
 use borrow.Author.Needs.{needs}
 use Rattle.planfile.proofs.read.read_lines.Statement.{statement}

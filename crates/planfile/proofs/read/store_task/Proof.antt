@@ -1,7 +1,7 @@
 -- `planfile::read::store_task` meets its contract: each key stores into its own list, and the others stay.
 use Rattle.table.specs.Keys.{periodKey, deadlineKey, stepsKey}
 use Rattle.planfile.specs.Reader.{storedIf}
-use Rattle.planfile.specs.ReaderLaws.{stored-at, stored-not}
+use Rattle.planfile.specs.StoreLaws.{stored-at, stored-not}
 use native.Mathlib.Omega.{arith}
 use borrow.Author.Needs.{needs}
 use Rattle.planfile.proofs.read.store_task.Statement.{statement}

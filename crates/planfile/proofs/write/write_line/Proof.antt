@@ -6,7 +6,7 @@ use Rattle.text.specs.Text.{line, appended}
 use Rattle.text.specs.TextLaws.{Holds}
 use Rattle.planfile.specs.Words.{word, lineOf}
 use Rattle.planfile.specs.DraftLaws.{by-key}
-use Rattle.planfile.specs.LineLaws.{word-holds, word-most, holds-length}
+use Rattle.planfile.specs.LineLaws.{word-holds, word-form, holds-length}
 use native.Mathlib.Omega.{arith}
 use borrow.Author.Needs.{needs}
 use Rattle.planfile.proofs.write.write_line.Statement.{statement}
@@ -23,7 +23,7 @@ append-word-requires : tie.Need-append-word-requires
 append-word-requires c κs = search needs
 
 array-share-prefix-word : tie.Need-array-share-prefix-word
-array-share-prefix-word c = let h = word-there (c .before .before) in omega (arith, h .end, by-key word-most (c .before .before .before .before .before .args .key))
+array-share-prefix-word c = let h = word-there (c .before .before) in omega (arith, h .end, by-key word-form (c .before .before .before .before .before .args .key) .0)
 
 slice-aggregate-append-line : tie.Need-slice-aggregate-append-line
 slice-aggregate-append-line c = sym (holds-length (word-there (c .before .before .before)))

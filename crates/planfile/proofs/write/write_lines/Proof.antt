@@ -1,8 +1,8 @@
 -- `planfile::write::write_lines` meets its contract: at each line, the text so far and the lines that are left are the whole file.
 use Prim.Native.Nat.{_-_}
-use mathlib.Core.Path.{sym, _∙_}
-use Rattle.table.specs.Table.{Table, tableOf}
-use Rattle.table.specs.TableLaws.{Checked, checked}
+use mathlib.Core.Path.{_≡_, sym, _∙_}
+use mathlib.Core.Bool.{true}
+use Rattle.table.specs.Table.{Table, tableOf, isPlan}
 use Rattle.planfile.specs.File.{linesOf}
 use Rattle.planfile.specs.WriterLaws.{linesDue, Wrote, wrote-start, wrote-same, wrote-few, wrote-slots, wrote-value, wrote-left, wrote-line, wrote-next, wrote-end}
 use native.Mathlib.Omega.{arith}
@@ -23,8 +23,8 @@ table c =
     tableOf (c .args .processors) (c .args .tasks) (c .args .period .now) (c .args .deadline .now) (c .args .steps .now)
     (c .args .processor .now) (c .args .priority .now) (c .args .time .now)
 
-plan : (c : tie.Start Inv-loop μ-loop) → Checked (table c)
-plan c = checked (table c) (c .pre .0)
+plan : (c : tie.Start Inv-loop μ-loop) → isPlan (table c) ≡ true
+plan c = c .pre .0
 
 first-requires : tie.Need-first-requires Inv-loop μ-loop
 first-requires c κs = search needs

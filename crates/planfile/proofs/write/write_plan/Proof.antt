@@ -1,8 +1,7 @@
 -- `planfile::write::write_plan` meets its contract: 7, or the whole file at the front of the output.
 use mathlib.Core.Path.{sym}
-use Rattle.table.specs.TableLaws.{checked}
 use Rattle.planfile.specs.LineLaws.{holds-length}
-use Rattle.planfile.specs.PartLaws.{file-most}
+use Rattle.planfile.specs.FileLaws.{file-most}
 use Rattle.planfile.specs.WriterLaws.{write-short, write-done}
 use native.Mathlib.Omega.{arith}
 use borrow.Author.Needs.{needs}
@@ -19,7 +18,7 @@ returns : tie.Need-returns
 returns c = write-short _ _ (c .before .before .before .before .before .before .before .before .before .before .before .pre) (c .before .before .write-lines .ensures) (c .if1 .taken)
 
 array-share-prefix-text : tie.Need-array-share-prefix-text
-array-share-prefix-text c = omega (arith, c .before .before .before .write-lines .ensures .end, file-most (checked _ (c .before .before .before .before .before .before .before .before .before .before .before .before .pre)))
+array-share-prefix-text c = omega (arith, c .before .before .before .write-lines .ensures .end, file-most _ (c .before .before .before .before .before .before .before .before .before .before .before .before .pre))
 
 slice-aggregate-append : tie.Need-slice-aggregate-append
 slice-aggregate-append c = sym (holds-length (c .before .before .before .before .write-lines .ensures))

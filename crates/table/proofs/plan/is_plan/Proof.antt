@@ -1,48 +1,35 @@
-use mathlib.Core.Path.{_≡_, sym, refl, _∙_, ap}
+-- `table::plan::is_plan` meets its contract: counts, tasks, rows in all, rows.
+use mathlib.Core.Path.{sym, _∙_}
 use borrow.Author.Tests.{not-true, not-false, le-leb, lt-leb}
 use Rattle.table.specs.RangesLaws.{within-of}
 use Rattle.table.specs.Ranges.{rangeOf, ranges}
 use Rattle.table.specs.TableLaws.{tasks-within}
-use Rattle.table.specs.Table.{at, isPlan, rows, firstRow, mostRows}
-use native.Mathlib.Omega.{arith}
+use Rattle.table.specs.Table.{isPlan, rows, firstRow}
 use borrow.Author.Needs.{needs}
 use Rattle.table.proofs.plan.is_plan.Statement.{statement}
 use Rattle.table.proofs.plan.is_plan.Tie as tie
-use Rattle.table.proofs.plan.is_plan.Reads as reads
-use Rattle.table.proofs.plan.is_plan.Lts as lts
-use Rattle.table.proofs.plan.rows_right.Reads as rows-right-reads
-use Rattle.table.proofs.plan.steps_in_all.Reads as steps-in-all-reads
-use Rattle.table.proofs.plan.tasks_right.Reads as tasks-right-reads
-use Rattle.table.proofs.ranges.in_range.Reads as in-range-reads
 
--- src/plan.rt:109:9
 in-range-requires : tie.Need-in-range-requires
 in-range-requires c κs = search needs
 
--- src/plan.rt:110:9
 returns : tie.Need-returns
 unfolding isPlan
 returns c = rw (sym (c .before .in-range .ensures) ∙ not-true _ (c .if1 .taken))
 
--- src/plan.rt:112:9
 in-range-requires-2 : tie.Need-in-range-requires-2
 in-range-requires-2 c κs = search needs
 
--- src/plan.rt:113:9
 returns-2 : tie.Need-returns-2
 unfolding isPlan
 returns-2 c = rw (sym (c .before .before .before .in-range .ensures) ∙ not-false _ (c .before .before .if1 .left), sym (c .before .in-range2 .ensures) ∙ not-true _ (c .if2 .taken))
 
--- src/plan.rt:115:9
 tasks-right-requires : tie.Need-tasks-right-requires
 tasks-right-requires c κs = search needs
 
--- src/plan.rt:116:9
 returns-3 : tie.Need-returns-3
 unfolding isPlan
 returns-3 c = rw (sym (c .before .before .before .before .before .in-range .ensures) ∙ not-false _ (c .before .before .before .before .if1 .left), sym (c .before .before .before .in-range2 .ensures) ∙ not-false _ (c .before .before .if2 .left), sym (c .before .tasks-right .ensures) ∙ not-true _ (c .if3 .taken))
 
--- src/plan.rt:118:9
 steps-in-all-requires : tie.Need-steps-in-all-requires
 unfolding rangeOf ranges
 steps-in-all-requires c κs =
@@ -50,18 +37,15 @@ steps-in-all-requires c κs =
     let right = tasks-within _ _ _ _ (sym (c .before .tasks-right .ensures) ∙ not-false _ (c .if3 .left)) in
     (few .most, right .long .three, λ i l. right .each i l .steps-most)
 
--- src/plan.rt:120:9
 returns-4 : tie.Need-returns-4
 unfolding isPlan rows firstRow
 returns-4 c =
     rw (sym (c .before .before .before .before .before .before .before .in-range .ensures) ∙ not-false _ (c .before .before .before .before .before .before .if1 .left), sym (c .before .before .before .before .before .in-range2 .ensures) ∙ not-false _ (c .before .before .before .before .if2 .left), sym (c .before .before .before .tasks-right .ensures) ∙ not-false _ (c .before .before .if3 .left))
     (rw (← c .before .steps-in-all .ensures, lt-leb _ _ (c .if4 .taken)))
 
--- src/plan.rt:122:5
 rows-right-requires : tie.Need-rows-right-requires
 rows-right-requires c κs = search needs
 
--- src/plan.rt:97:1
 returns-5 : tie.Need-returns-5
 unfolding isPlan rows firstRow
 returns-5 c =

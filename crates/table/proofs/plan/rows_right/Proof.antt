@@ -1,9 +1,9 @@
+-- `table::plan::rows_right` meets its contract: the rows passed are right.
 use Rattle.table.specs.TableLaws.{Long, long-of}
 use borrow.Author.Tests.{not-true, not-false}
-use lib.ListN.{length}
-use Prim.Native.Nat.{ℕ, _≤_, _<_, _+_, _*_, _-_}
-use mathlib.Core.Bool.{true, false}
-use mathlib.Core.Path.{_≡_, sym, refl, _∙_}
+use Prim.Native.Nat.{_≤_, _-_}
+use mathlib.Core.Bool.{true}
+use mathlib.Core.Path.{_≡_, sym, _∙_}
 use Rattle.facts.specs.TestsLaws.{all-none, all-more, all-fails}
 use Rattle.facts.specs.Tests.{all}
 use Rattle.table.specs.Table.{at, longEnough, rowsRight, rowRight}
@@ -11,10 +11,6 @@ use native.Mathlib.Omega.{arith}
 use borrow.Author.Needs.{needs}
 use Rattle.table.proofs.plan.rows_right.Statement.{statement}
 use Rattle.table.proofs.plan.rows_right.Tie as tie
-use Rattle.table.proofs.plan.rows_right.Reads as reads
-use Rattle.table.proofs.plan.rows_right.Lts as lts
-use Rattle.table.proofs.plan.long_enough.Reads as long-enough-reads
-use Rattle.table.proofs.plan.row_right.Reads as row-right-reads
 
 abbrev Inv-loop : tie.InvT-loop
 Inv-loop n processors processor priority time i₀ i = (i ≤ n) × (longEnough n processor priority time ≡ true) × Long n processor priority time × (all i (λ k. rowRight processors (at processor k) (at priority k) (at time k)) ≡ true)
@@ -22,50 +18,39 @@ Inv-loop n processors processor priority time i₀ i = (i ≤ n) × (longEnough 
 abbrev μ-loop : tie.MeasureT-loop
 μ-loop n processors processor priority time i₀ i = n - i
 
--- src/plan.rt:69:9
 long-enough-requires : tie.Need-long-enough-requires Inv-loop μ-loop
 long-enough-requires c κs = search needs
 
--- src/plan.rt:70:9
 returns : tie.Need-returns Inv-loop μ-loop
 unfolding rowsRight
 returns c = rw (sym (c .before .long-enough .ensures) ∙ not-true _ (c .if1 .taken))
 
--- src/plan.rt:73:5
 loop-holds : tie.Need-loop-holds Inv-loop μ-loop
 loop-holds c =
     let e = sym (c .before .long-enough .ensures) ∙ not-false _ (c .if1 .left) in
     (omega arith, e, long-of _ _ _ _ e, all-none _)
 
--- src/plan.rt:74:35
 mul-row-right : tie.Need-mul-row-right Inv-loop μ-loop
 mul-row-right c = search needs
 
--- src/plan.rt:74:35
 shared-slice-read-row-right : tie.Need-shared-slice-read-row-right Inv-loop μ-loop
 shared-slice-read-row-right c = search needs
 
--- src/plan.rt:74:49
 mul-row-right-2 : tie.Need-mul-row-right-2 Inv-loop μ-loop
 mul-row-right-2 c = search needs
 
--- src/plan.rt:74:49
 shared-slice-read-row-right-2 : tie.Need-shared-slice-read-row-right-2 Inv-loop μ-loop
 shared-slice-read-row-right-2 c = search needs
 
--- src/plan.rt:74:62
 mul-row-right-3 : tie.Need-mul-row-right-3 Inv-loop μ-loop
 mul-row-right-3 c = search needs
 
--- src/plan.rt:74:62
 shared-slice-read-row-right-3 : tie.Need-shared-slice-read-row-right-3 Inv-loop μ-loop
 shared-slice-read-row-right-3 c = search needs
 
--- src/plan.rt:74:13
 row-right-requires : tie.Need-row-right-requires Inv-loop μ-loop
 row-right-requires c κs = search needs
 
--- src/plan.rt:75:13
 returns-2 : tie.Need-returns-2 Inv-loop μ-loop
 unfolding rowsRight
 returns-2 c =
@@ -73,22 +58,18 @@ returns-2 c =
     let a = c .before .before .before .before .before .before .before .before .before .before .before .before .args in
     rw (l .inv .1) (sym (all-fails (a .n) (λ k. rowRight (a .processors) (at (a .processor .now) k) (at (a .priority .now) k) (at (a .time .now) k)) (l .i) (omega arith) (sym (c .before .row-right .ensures) ∙ not-true _ (c .if2 .taken))))
 
--- src/plan.rt:77:9
 add-i : tie.Need-add-i Inv-loop μ-loop
 add-i c = search needs
 
--- src/plan.rt:73:5
 loop-less : tie.Need-loop-less Inv-loop μ-loop
 loop-less c = search needs
 
--- src/plan.rt:73:5
 loop-again : tie.Need-loop-again Inv-loop μ-loop
 loop-again c =
     let l = c .before .before .before .before .before .before .loop in
     let a = c .before .before .before .before .before .before .before .before .before .before .before .before .args in
     (omega arith, l .inv .1, l .inv .2, all-more (l .i) (λ k. rowRight (a .processors) (at (a .processor .now) k) (at (a .priority .now) k) (at (a .time .now) k)) (l .inv .3) (sym (c .before .row-right .ensures) ∙ not-false _ (c .if2 .left)))
 
--- src/plan.rt:66:1
 returns-3 : tie.Need-returns-3 Inv-loop μ-loop
 unfolding rowsRight
 returns-3 c =

@@ -1,5 +1,6 @@
-use Prim.Native.Nat.{ℕ, _≤_, _<_, _+_, _*_, _-_}
-use mathlib.Core.Path.{_≡_, sym, refl, _∙_, ap}
+-- `table::plan::steps_in_all` meets its contract: the sum so far.
+use Prim.Native.Nat.{ℕ, _≤_, _+_, _*_, _-_}
+use mathlib.Core.Path.{_≡_, sym, _∙_, ap}
 use Rattle.table.specs.Table.{at}
 use Rattle.facts.specs.SumsLaws.{sum-none, sum-more}
 use Rattle.facts.specs.Sums.{sum}
@@ -7,8 +8,6 @@ use native.Mathlib.Omega.{arith}
 use borrow.Author.Needs.{needs}
 use Rattle.table.proofs.plan.steps_in_all.Statement.{statement}
 use Rattle.table.proofs.plan.steps_in_all.Tie as tie
-use Rattle.table.proofs.plan.steps_in_all.Reads as reads
-use Rattle.table.proofs.plan.steps_in_all.Lts as lts
 
 abbrev Inv-loop : tie.InvT-loop
 Inv-loop n steps all₀ i₀ all i = (i ≤ n) × (all ≡ sum i (at steps)) × (all ≤ 16 * i)
@@ -16,31 +15,24 @@ Inv-loop n steps all₀ i₀ all i = (i ≤ n) × (all ≡ sum i (at steps)) × 
 abbrev μ-loop : tie.MeasureT-loop
 μ-loop n steps all₀ i₀ all i = n - i
 
--- src/plan.rt:89:5
 loop-holds : tie.Need-loop-holds Inv-loop μ-loop
 loop-holds c = (omega arith, sym (sum-none _), omega arith)
 
--- src/plan.rt:90:16
 mul-all : tie.Need-mul-all Inv-loop μ-loop
 mul-all c = search needs
 
--- src/plan.rt:90:16
 shared-slice-read-all : tie.Need-shared-slice-read-all Inv-loop μ-loop
 shared-slice-read-all c = search needs
 
--- src/plan.rt:90:9
 add-all : tie.Need-add-all Inv-loop μ-loop
 add-all c = omega (arith, c .before .before .before .pre .2 (c .before .before .loop .i) (omega arith))
 
--- src/plan.rt:91:9
 add-i : tie.Need-add-i Inv-loop μ-loop
 add-i c = search needs
 
--- src/plan.rt:89:5
 loop-less : tie.Need-loop-less Inv-loop μ-loop
 loop-less c = search needs
 
--- src/plan.rt:89:5
 loop-again : tie.Need-loop-again Inv-loop μ-loop
 loop-again c =
     let l = c .before .before .loop in (
@@ -49,7 +41,6 @@ loop-again c =
       omega (arith, c .before .before .before .pre .2 (l .i) (omega arith)),
     )
 
--- src/plan.rt:83:1
 returns : tie.Need-returns Inv-loop μ-loop
 returns c =
     let e : c .before .loop .i ≡ c .before .before .args .n = omega arith in

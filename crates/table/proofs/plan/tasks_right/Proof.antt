@@ -1,9 +1,9 @@
+-- `table::plan::tasks_right` meets its contract: the tasks passed are right.
 use Rattle.table.specs.TableLaws.{Long, long-of}
 use borrow.Author.Tests.{not-true, not-false}
-use lib.ListN.{length}
-use Prim.Native.Nat.{ℕ, _≤_, _<_, _+_, _*_, _-_}
-use mathlib.Core.Bool.{true, false}
-use mathlib.Core.Path.{_≡_, sym, refl, _∙_}
+use Prim.Native.Nat.{_≤_, _-_}
+use mathlib.Core.Bool.{true}
+use mathlib.Core.Path.{_≡_, sym, _∙_}
 use Rattle.facts.specs.TestsLaws.{all-none, all-more, all-fails}
 use Rattle.facts.specs.Tests.{all}
 use Rattle.table.specs.Table.{at, longEnough, tasksRight, taskRight}
@@ -11,10 +11,6 @@ use native.Mathlib.Omega.{arith}
 use borrow.Author.Needs.{needs}
 use Rattle.table.proofs.plan.tasks_right.Statement.{statement}
 use Rattle.table.proofs.plan.tasks_right.Tie as tie
-use Rattle.table.proofs.plan.tasks_right.Reads as reads
-use Rattle.table.proofs.plan.tasks_right.Lts as lts
-use Rattle.table.proofs.plan.long_enough.Reads as long-enough-reads
-use Rattle.table.proofs.plan.task_right.Reads as task-right-reads
 
 abbrev Inv-loop : tie.InvT-loop
 Inv-loop n period deadline steps i₀ i = (i ≤ n) × (longEnough n period deadline steps ≡ true) × Long n period deadline steps × (all i (λ k. taskRight (at period k) (at deadline k) (at steps k)) ≡ true)
@@ -22,50 +18,39 @@ Inv-loop n period deadline steps i₀ i = (i ≤ n) × (longEnough n period dead
 abbrev μ-loop : tie.MeasureT-loop
 μ-loop n period deadline steps i₀ i = n - i
 
--- src/plan.rt:41:9
 long-enough-requires : tie.Need-long-enough-requires Inv-loop μ-loop
 long-enough-requires c κs = search needs
 
--- src/plan.rt:42:9
 returns : tie.Need-returns Inv-loop μ-loop
 unfolding tasksRight
 returns c = rw (sym (c .before .long-enough .ensures) ∙ not-true _ (c .if1 .taken))
 
--- src/plan.rt:45:5
 loop-holds : tie.Need-loop-holds Inv-loop μ-loop
 loop-holds c =
     let e = sym (c .before .long-enough .ensures) ∙ not-false _ (c .if1 .left) in
     (omega arith, e, long-of _ _ _ _ e, all-none _)
 
--- src/plan.rt:46:24
 mul-task-right : tie.Need-mul-task-right Inv-loop μ-loop
 mul-task-right c = search needs
 
--- src/plan.rt:46:24
 shared-slice-read-task-right : tie.Need-shared-slice-read-task-right Inv-loop μ-loop
 shared-slice-read-task-right c = search needs
 
--- src/plan.rt:46:35
 mul-task-right-2 : tie.Need-mul-task-right-2 Inv-loop μ-loop
 mul-task-right-2 c = search needs
 
--- src/plan.rt:46:35
 shared-slice-read-task-right-2 : tie.Need-shared-slice-read-task-right-2 Inv-loop μ-loop
 shared-slice-read-task-right-2 c = search needs
 
--- src/plan.rt:46:48
 mul-task-right-3 : tie.Need-mul-task-right-3 Inv-loop μ-loop
 mul-task-right-3 c = search needs
 
--- src/plan.rt:46:48
 shared-slice-read-task-right-3 : tie.Need-shared-slice-read-task-right-3 Inv-loop μ-loop
 shared-slice-read-task-right-3 c = search needs
 
--- src/plan.rt:46:13
 task-right-requires : tie.Need-task-right-requires Inv-loop μ-loop
 task-right-requires c κs = search needs
 
--- src/plan.rt:47:13
 returns-2 : tie.Need-returns-2 Inv-loop μ-loop
 unfolding tasksRight
 returns-2 c =
@@ -73,22 +58,18 @@ returns-2 c =
     let a = c .before .before .before .before .before .before .before .before .before .before .before .before .args in
     rw (l .inv .1) (sym (all-fails (a .n) (λ k. taskRight (at (a .period .now) k) (at (a .deadline .now) k) (at (a .steps .now) k)) (l .i) (omega arith) (sym (c .before .task-right .ensures) ∙ not-true _ (c .if2 .taken))))
 
--- src/plan.rt:49:9
 add-i : tie.Need-add-i Inv-loop μ-loop
 add-i c = search needs
 
--- src/plan.rt:45:5
 loop-less : tie.Need-loop-less Inv-loop μ-loop
 loop-less c = search needs
 
--- src/plan.rt:45:5
 loop-again : tie.Need-loop-again Inv-loop μ-loop
 loop-again c =
     let l = c .before .before .before .before .before .before .loop in
     let a = c .before .before .before .before .before .before .before .before .before .before .before .before .args in
     (omega arith, l .inv .1, l .inv .2, all-more (l .i) (λ k. taskRight (at (a .period .now) k) (at (a .deadline .now) k) (at (a .steps .now) k)) (l .inv .3) (sym (c .before .task-right .ensures) ∙ not-false _ (c .if2 .left)))
 
--- src/plan.rt:38:1
 returns-3 : tie.Need-returns-3 Inv-loop μ-loop
 unfolding tasksRight
 returns-3 c =

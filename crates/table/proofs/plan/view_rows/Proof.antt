@@ -1,7 +1,8 @@
+-- `table::plan::view_rows` meets its contract: each row's period and whether it is first, task by task.
 use lib.ListN.{length, length-set}
 use mathlib.Core.Logic.{⊎-elim}
-use Prim.Native.Nat.{ℕ, _≤_, _<_, _+_, _-_}
-use mathlib.Core.Path.{_≡_, sym, refl, _∙_, ap}
+use Prim.Native.Nat.{_≤_, _-_}
+use mathlib.Core.Path.{_≡_, sym, refl, _∙_}
 use borrow.Author.Tests.{not-true, not-false, le-leb, lt-leb}
 use Rattle.facts.specs.FilledLaws.{filled-none, filled-more}
 use Rattle.facts.specs.Filled.{filled}
@@ -9,15 +10,11 @@ use Rattle.table.specs.View.{viewed}
 use Rattle.table.specs.ViewLaws.{Standing, Inside, standing-start, next-task, this-task, inside-period, inside-first, inside-after}
 use Rattle.table.specs.Plan.{planOf}
 use Rattle.table.specs.TableLaws.{Checked, checked}
-use Rattle.table.specs.Table.{Table, tableOf, at, rows, firstRow}
+use Rattle.table.specs.Table.{Table, tableOf, rows, firstRow}
 use native.Mathlib.Omega.{arith}
 use borrow.Author.Needs.{needs}
 use Rattle.table.proofs.plan.view_rows.Statement.{statement}
 use Rattle.table.proofs.plan.view_rows.Tie as tie
-use Rattle.table.proofs.plan.view_rows.Reads as reads
-use Rattle.table.proofs.plan.view_rows.Lts as lts
-use Rattle.table.proofs.plan.is_plan.Reads as is-plan-reads
-use Rattle.table.proofs.plan.steps_in_all.Reads as steps-in-all-reads
 
 abbrev Inv-loop : tie.InvT-loop
 Inv-loop processors tasks period deadline steps processor priority time periods₀ firsts₀ rows task₀ start₀ row₀ periods firsts task start row =
@@ -49,36 +46,30 @@ inside c =
     (λ w. rw (w .1, w .2) (this-task _ (l .inv .2) (l .inv .3) (w .0 .left)))
     (c .if4 .came)
 
--- src/plan.rt:149:9
 is-plan-requires : tie.Need-is-plan-requires Inv-loop μ-loop
 is-plan-requires c κs = search needs
 
--- src/plan.rt:150:9
 returns : tie.Need-returns Inv-loop μ-loop
 unfolding viewed
 returns c = rw (sym (c .before .is-plan .ensures) ∙ not-true _ (c .if1 .taken))
 
--- src/plan.rt:152:9
 steps-in-all-requires : tie.Need-steps-in-all-requires Inv-loop μ-loop
 steps-in-all-requires c κs =
     let ok = checked _ (sym (c .before .is-plan .ensures) ∙ not-false _ (c .if1 .left)) in
     (ok .tasks-most, ok .tasks .long .three, λ i l. ok .tasks .each i l .steps-most)
 
--- src/plan.rt:154:9
 returns-2 : tie.Need-returns-2 Inv-loop μ-loop
 unfolding viewed rows firstRow
 returns-2 c =
     let plan = sym (c .before .before .before .is-plan .ensures) ∙ not-false _ (c .before .before .if1 .left) in
     rw (plan, ← c .before .steps-in-all .ensures, lt-leb _ _ (c .if2 .taken))
 
--- src/plan.rt:157:9
 returns-3 : tie.Need-returns-3 Inv-loop μ-loop
 unfolding viewed rows firstRow
 returns-3 c =
     let plan = sym (c .before .before .before .before .is-plan .ensures) ∙ not-false _ (c .before .before .before .if1 .left) in
     rw (plan, ← c .before .before .steps-in-all .ensures, le-leb _ _ (c .before .if2 .left), lt-leb _ _ (c .if3 .taken))
 
--- src/plan.rt:162:5
 loop-holds : tie.Need-loop-holds Inv-loop μ-loop
 unfolding rows firstRow
 loop-holds c =
@@ -86,57 +77,45 @@ loop-holds c =
     let ok = checked _ plan in
     (c .before .before .steps-in-all .ensures, omega arith, ok, standing-start _ ok, filled-none _ _, filled-none _ _, refl, refl)
 
--- src/plan.rt:164:20
 mul-if4 : tie.Need-mul-if4 Inv-loop μ-loop
 mul-if4 c = search needs
 
--- src/plan.rt:164:20
 shared-slice-read-if4 : tie.Need-shared-slice-read-if4 Inv-loop μ-loop
 shared-slice-read-if4 c = search needs
 
--- src/plan.rt:164:12
 add-if4 : tie.Need-add-if4 Inv-loop μ-loop
 add-if4 c =
     let l = c .before .before .loop in
     omega (arith, l .inv .2 .tasks .each (l .task) (l .inv .3 .task-is) .steps-most, l .inv .3 .from, l .inv .2 .rows-most)
 
--- src/plan.rt:166:13
 add-task : tie.Need-add-task Inv-loop μ-loop
 add-task c = search needs
 
--- src/plan.rt:168:33
 mul-periods : tie.Need-mul-periods Inv-loop μ-loop
 mul-periods c =
     let i = inside (c .before) in
     omega (arith, i .task-is, c .before .before .before .before .loop .inv .2 .tasks-most)
 
--- src/plan.rt:168:33
 shared-slice-read-periods : tie.Need-shared-slice-read-periods Inv-loop μ-loop
 shared-slice-read-periods c =
     let i = inside (c .before .before) in
     omega (arith, i .task-is, c .before .before .before .before .before .loop .inv .2 .tasks .long .one)
 
--- src/plan.rt:168:9
 mul-periods-2 : tie.Need-mul-periods-2 Inv-loop μ-loop
 mul-periods-2 c = search needs
 
--- src/plan.rt:168:9
 slice-write-periods : tie.Need-slice-write-periods Inv-loop μ-loop
 slice-write-periods c = search needs
 
--- src/plan.rt:169:9
 slice-write-firsts : tie.Need-slice-write-firsts Inv-loop μ-loop
 slice-write-firsts c = search needs
 
--- src/plan.rt:170:9
 add-row : tie.Need-add-row Inv-loop μ-loop
 add-row c = search needs
 
--- src/plan.rt:162:5
 loop-less : tie.Need-loop-less Inv-loop μ-loop
 loop-less c = search needs
 
--- src/plan.rt:162:5
 loop-again : tie.Need-loop-again Inv-loop μ-loop
 loop-again c =
     let l = c .before .before .before .before .before .loop in
@@ -151,15 +130,12 @@ loop-again c =
       simp length-set (l .inv .7),
     )
 
--- src/plan.rt:135:1
 same-length : tie.Need-same-length Inv-loop μ-loop
 same-length c = search needs
 
--- src/plan.rt:135:1
 same-length-2 : tie.Need-same-length-2 Inv-loop μ-loop
 same-length-2 c = search needs
 
--- src/plan.rt:135:1
 returns-4 : tie.Need-returns-4 Inv-loop μ-loop
 unfolding viewed
 returns-4 c =

@@ -1,24 +1,17 @@
+-- `table::ranges::in_range` meets its contract: both ends of the range.
 use borrow.Author.Tests.{le-leb, lt-leb}
-use mathlib.Core.Path.{_≡_, sym, _∙_, refl}
-use Rattle.table.specs.Ranges.{inRange, rangeOf}
-use native.Mathlib.Omega.{arith}
+use Rattle.table.specs.Ranges.{inRange}
 use borrow.Author.Needs.{needs}
 use Rattle.table.proofs.ranges.in_range.Statement.{statement}
 use Rattle.table.proofs.ranges.in_range.Tie as tie
-use Rattle.table.proofs.ranges.in_range.Reads as reads
-use Rattle.table.proofs.ranges.in_range.Lts as lts
-use Rattle.table.proofs.ranges.range_of.Reads as range-of-reads
 
--- src/ranges.rt:46:9
 range-of-requires : tie.Need-range-of-requires
 range-of-requires c κs = search needs
 
--- src/ranges.rt:48:9
 returns : tie.Need-returns
 unfolding inRange
 returns c = simp (← c .before .before .range-of .ensures, lt-leb _ _ (c .if1 .taken))
 
--- src/ranges.rt:43:1
 returns-2 : tie.Need-returns-2
 unfolding inRange
 returns-2 c = simp (← c .before .before .before .range-of .ensures, le-leb _ _ (c .before .if1 .left))

@@ -1,6 +1,6 @@
 -- `text::decimal::append_decimal` meets its contract: the part of the buffer that is appended is what `spell` put there.
 use Prim.Native.Nat.{ℕ, _-_}
-use mathlib.Core.Path.{_≡_, _∙_, ap}
+use mathlib.Core.Path.{_∙_, ap}
 use mathlib.Core.List.{List}
 use lib.ListN.{drop, length-drop}
 use lib.Seq.{take-all}
