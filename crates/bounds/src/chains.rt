@@ -1,5 +1,6 @@
 // Bound and slack of each chain, and whether the plan is accepted.
 
+use table::deadline::in_force;
 ghost use mathlib.Core.Path.{_≡_};
 ghost use mathlib.Core.Bool.{cond};
 ghost use Prim.Native.Nat.{ℕ, _+_, _≤_, _<_};
@@ -11,16 +12,6 @@ ghost use Rattle.facts.specs.Sums.{sum};
 ghost use Rattle.table.specs.Table.{at};
 ghost use Rattle.bounds.specs.Bounds.{accepted, chainBound, slackOf};
 ghost use Rattle.bounds.specs.Chains.{Chained, boundsOf, tasksOf};
-
-// The deadline in force: a deadline of 0 means the period.
-fn in_force(period: u64, deadline: u64) -> u64
-    ensures { λ r. ⌜ r ≡ cond (eqb deadline 0) period deadline ⌝ }
-{
-    if deadline == 0 {
-        return period;
-    }
-    deadline
-}
 
 // What is left of the deadline: signed, since the bound may be the greater.
 fn slack_of(deadline: u64, bound: u64) -> i64

@@ -3,6 +3,7 @@
 use crate::columns::Columns;
 use guards::arrive as arrival;
 use guards::state::Called;
+ghost use mathlib.Core.Path.{_≡_};
 ghost use Rattle.guards.specs.Calls as calls;
 ghost use Rattle.guards.specs.Lent.{onLists, outcomeOf, stateOf};
 ghost use Rattle.columns.specs.Columns.{tableIn};

@@ -18,7 +18,7 @@ use Rattle.bounds.proofs.chains.fill_chains.Tie as tie
 use Rattle.bounds.proofs.chains.fill_chains.Reads as reads
 use Rattle.bounds.proofs.chains.fill_chains.Lts as lts
 use Rattle.bounds.proofs.chains.chain_bound.Reads as chain-bound-reads
-use Rattle.bounds.proofs.chains.in_force.Reads as in-force-reads
+use Rattle.table.proofs.deadline.in_force.Reads as in-force-reads
 use Rattle.bounds.proofs.chains.slack_of.Reads as slack-of-reads
 
 abbrev Inv-loop : tie.InvT-loop
