@@ -12,7 +12,8 @@ use Rattle.table.specs.Ranges.{inRange}
 use Rattle.table.specs.Table.{at}
 use Rattle.planfile.specs.declared.due.Due.{Due}
 use Rattle.planfile.specs.Draft.{Draft, blank, rowsAsked, added, placed, following, advanced}
-use Rattle.planfile.specs.DraftLaws.{draftOf, Shape, asked-more, value-most, own-few}
+use Rattle.planfile.specs.DraftLaws.{draftOf, Shape, asked-more, own-few}
+use Rattle.planfile.specs.KeyLaws.{value-most}
 use Rattle.planfile.specs.Due.{dueOf, begun, ownNumber, counted, nextKey, keyed, past}
 
 pub due-blank : begun ≡ dueOf blank

@@ -9,7 +9,8 @@ use lib.ListN.{length, drop, length-drop}
 use Rattle.table.specs.Table.{Table, firstRow, rows, isPlan}
 use Rattle.planfile.specs.Words.{lineOf}
 use Rattle.planfile.specs.Draft.{Draft, noKey, own, advanced}
-use Rattle.planfile.specs.DraftLaws.{Shape, EachKey, by-key, own-most, linesSoFar, draftOf, where-due, due-there}
+use Rattle.planfile.specs.DraftLaws.{Shape, own-most, linesSoFar, draftOf, where-due, due-there}
+use Rattle.planfile.specs.KeyLaws.{EachKey, by-key}
 use Rattle.planfile.specs.File.{valueFor, linesFrom, linesOf, fileOf}
 use Rattle.planfile.specs.Reading.{mostBytes}
 use Rattle.planfile.specs.Verdicts.{RightLine, RightLines}

@@ -21,6 +21,7 @@ pub mod RoundTrip
 pub mod LongerLaws
 pub mod Answered
 pub mod ReadWriteLaws
+pub mod KeyLaws
 pub mod DraftLaws
 pub mod LineLaws
 pub mod Due

@@ -14,7 +14,7 @@ use Rattle.text.specs.Text.{Written, appended}
 use Rattle.text.specs.TextLaws.{Holds, holds-none, holds-more}
 use Rattle.planfile.specs.declared.line.Line.{Line}
 use Rattle.planfile.specs.declared.line.Line.the-variants.{Value, Fault}
-use Rattle.planfile.specs.DraftLaws.{EachKey, by-key}
+use Rattle.planfile.specs.KeyLaws.{EachKey, by-key}
 use Rattle.planfile.specs.Words.{words, word}
 use Rattle.planfile.specs.Line.{isDigit, stands, digitsFrom, valueFrom, lineAt}
 

@@ -15,7 +15,8 @@ use Rattle.table.specs.RangesLaws.{in-range-of}
 use Rattle.table.specs.Table.{Table, at, firstRow, rows, mostRows}
 use Rattle.table.specs.PlanLaws.{first-row-suc, first-row-mono}
 use Rattle.planfile.specs.Draft.{Draft, noKey, rowsAsked, own, added, placed, advanced}
-use Rattle.planfile.specs.DraftLaws.{Shape, EachKey, by-key, byKey, draftOf, where-due}
+use Rattle.planfile.specs.DraftLaws.{Shape, byKey, draftOf, where-due}
+use Rattle.planfile.specs.KeyLaws.{EachKey, by-key}
 use Rattle.planfile.specs.File.{valueFor}
 use Rattle.planfile.specs.Reading.{tooMany}
 use Rattle.planfile.specs.PlanValues.{ValuesRight}

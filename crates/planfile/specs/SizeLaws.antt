@@ -12,7 +12,8 @@ use Rattle.table.specs.Table.{Table}
 use Rattle.text.specs.NumeralLaws.{decimal-few}
 use Rattle.planfile.specs.Words.{words, word, lineOf}
 use Rattle.planfile.specs.Draft.{Draft, noKey, own, added, placed, following, advanced}
-use Rattle.planfile.specs.DraftLaws.{Shape, EachKey, by-key, byKey, none-in-range, own-most, draftOf, after-row}
+use Rattle.planfile.specs.DraftLaws.{Shape, byKey, own-most, draftOf, after-row}
+use Rattle.planfile.specs.KeyLaws.{EachKey, by-key, none-in-range}
 use Rattle.planfile.specs.LineTextLaws.{length-lineOf}
 use Rattle.planfile.specs.LinesLaws.{lines-shape}
 use Rattle.planfile.specs.Verdicts.{RightLines}

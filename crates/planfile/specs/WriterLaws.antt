@@ -16,7 +16,8 @@ use Rattle.table.specs.declared.refusal.Refusal.the-variants.{NotAPlan, TooShor
 use Rattle.planfile.specs.declared.write.Writing.the-variants.{Bytes, Refused}
 use Rattle.planfile.specs.Words.{lineOf}
 use Rattle.planfile.specs.Draft.{Draft, noKey, blank, own, advanced}
-use Rattle.planfile.specs.DraftLaws.{Shape, EachKey, by-key, value-most, own-most, shape-blank, shape-next, linesSoFar, lines-next, draftOf, due-there}
+use Rattle.planfile.specs.DraftLaws.{Shape, own-most, shape-blank, shape-next, linesSoFar, lines-next, draftOf, due-there}
+use Rattle.planfile.specs.KeyLaws.{EachKey, by-key, value-most}
 use Rattle.planfile.specs.Due.{dueOf, begun, past}
 use Rattle.planfile.specs.DueLaws.{Few, due-blank, due-advanced, due-few}
 use Rattle.planfile.specs.File.{valueFor, linesFrom, linesOf, fileOf}

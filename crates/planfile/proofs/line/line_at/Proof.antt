@@ -3,7 +3,7 @@ use mathlib.Core.Path.{sym, _∙_, ap}
 use mathlib.Core.List.{List, [], _∷_, _++_}
 use Prim.Native.Nat.{ℕ}
 use Rattle.planfile.specs.Words.{words, word}
-use Rattle.planfile.specs.DraftLaws.{none-below}
+use Rattle.planfile.specs.KeyLaws.{none-below}
 use Rattle.planfile.specs.LineLaws.{lineHeaded, line-past, line-headed, line-named, no-word}
 use borrow.Author.Needs.{needs}
 use Rattle.planfile.proofs.line.line_at.Statement.{statement}

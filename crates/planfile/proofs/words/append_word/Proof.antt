@@ -5,7 +5,7 @@ use mathlib.Core.List.{List}
 use Rattle.text.specs.Text.{Written, appended}
 use Rattle.text.specs.TextLaws.{appended-none}
 use Rattle.planfile.specs.Words.{words, word}
-use Rattle.planfile.specs.DraftLaws.{none-below}
+use Rattle.planfile.specs.KeyLaws.{none-below}
 use Rattle.planfile.specs.LineLaws.{no-word}
 use borrow.Author.Needs.{needs}
 use Rattle.planfile.proofs.words.append_word.Statement.{statement}

@@ -5,7 +5,7 @@ use mathlib.Core.List.{List}
 use Rattle.text.specs.Text.{line, appended}
 use Rattle.text.specs.TextLaws.{Holds}
 use Rattle.planfile.specs.Words.{word, lineOf}
-use Rattle.planfile.specs.DraftLaws.{by-key}
+use Rattle.planfile.specs.KeyLaws.{by-key}
 use Rattle.planfile.specs.LineLaws.{word-holds, word-form, holds-length}
 use native.Mathlib.Omega.{arith}
 use borrow.Author.Needs.{needs}
