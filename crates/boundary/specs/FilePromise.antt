@@ -18,7 +18,7 @@ use Rattle.planfile.specs.RoundTrip.{held-shape, held-most}
 use Rattle.planfile.specs.LongerLaws.{laid-part}
 use Rattle.planfile.specs.TrimmedLaws.{Full, full-of}
 use Rattle.planfile.specs.ReadWriteLaws.{read-held}
-use Rattle.bounds.specs.declared.Bounded.the-variants.{Accepted}
+use Rattle.bounds.specs.declared.Bounded.the-variants.{Verdict}
 use Rattle.bounds.specs.Bounds as bounds
 use Rattle.bounds.specs.Bounds.{Bounding}
 use Rattle.bounds.specs.NoHarder.{NoHarder}
@@ -85,7 +85,7 @@ module _ (file list : List ℕ) (size : length list ≡ tableBytes) (T : Table) 
   -- A file holds a plan that is no harder than table P, whose bounds are given: runs on byte lists with the table list that
   -- the file is read into keep them.
   pub file-promise :
-      (P : Table) → NoHarder P T → (before after : bounds.Lists) (answer : ℕ) → Bounding P before after (Accepted answer)
+      (P : Table) → NoHarder P T → (before after : bounds.Lists) (answer : ℕ) → Bounding P before after (Verdict answer)
       → (task : ℕ) → RackEndsWithin (listRead file list) task (at (after .chain) (pred task))
   file-promise P easier before after answer bounding =
       rack-promise P (listRead file list) (file-held .size) (file-held .plan) (no-harder-held P easier) before after answer bounding

@@ -17,7 +17,7 @@ use Rattle.table.specs.TableLaws.{long-true}
 use Rattle.table.specs.declared.refusal.Refusal.{Refusal}
 use Rattle.table.specs.declared.refusal.Refusal.the-variants.{TooShort}
 use Rattle.planfile.specs.Reading.{Held, held}
-use Rattle.bounds.specs.declared.Bounded.the-variants.{Accepted}
+use Rattle.bounds.specs.declared.Bounded.the-variants.{Verdict}
 use Rattle.bounds.specs.Bounds.{Numbers, Analysis, chainBound, accepted, Lists, needed, filledIn, Bounding}
 use Rattle.report.specs.declared.Reporting.the-variants.{Bytes}
 use Rattle.report.specs.Report.{reportText}
@@ -51,7 +51,7 @@ module _ (T : Table) (N : Numbers) where
   no-more-needed =
       rw (long-true (rows T) (replicate (rows T) 0) (replicate (rows T) 0) (replicate (rows T) 0) (omega (arith, length-replicate {A = ℕ} (rows T) 0)), length-replicate {A = ℕ} (T .tasks) 0, length-replicate (T .tasks) (pos 0), le-leb (T .tasks) (T .tasks) (omega arith))
 
-  bounding : isPlan T ≡ true → Analysis T N → Bounding T room (filledIn T N room) (Accepted (cond (accepted T N) 1 0))
+  bounding : isPlan T ≡ true → Analysis T N → Bounding T room (filledIn T N room) (Verdict (cond (accepted T N) 1 0))
   bounding plan analysis = (plan, no-more-needed, record { numbers = N; analysis = analysis; lists = refl; says = refl })
 
   -- An entry of a list of zeros is 0.

@@ -12,7 +12,7 @@ use Rattle.table.specs.Table.{Table, at, firstRow, rows, isPlan}
 use Rattle.table.specs.TableLaws.{Checked, checked}
 use Rattle.table.specs.Plan.{planOf, inForce}
 use Rattle.table.specs.PlanLaws.{first-row-mono}
-use Rattle.bounds.specs.declared.Bounded.the-variants.{Accepted}
+use Rattle.bounds.specs.declared.Bounded.the-variants.{Verdict}
 use Rattle.bounds.specs.Bounds.{Lists, Bounding}
 use Rattle.bounds.specs.NoHarder.{NoHarder}
 use Rattle.guards.specs.declared.state.State.{State}
@@ -152,7 +152,7 @@ module _ (table : List ℕ) (size : length table ≡ tableBytes) (plan : isPlan 
 -- Demand 3 on byte lists: the table list holds a plan that is no harder than table P, whose bounds are given.
 pub rack-promise :
     (P : Table) (table : List ℕ) → length table ≡ tableBytes → isPlan (tableIn table) ≡ true → NoHarder P (tableIn table)
-    → (before after : Lists) (answer : ℕ) → Bounding P before after (Accepted answer)
+    → (before after : Lists) (answer : ℕ) → Bounding P before after (Verdict answer)
     → (task : ℕ) → RackEndsWithin table task (at (after .chain) (pred task))
 rack-promise P table size plan easier before after answer bounds task =
     ends-on-bytes table size plan task (at (after .chain) (pred task))
@@ -161,7 +161,7 @@ rack-promise P table size plan easier before after answer bounds task =
 -- So where P is accepted, every instance of a task ends within its deadline in force.
 pub rack-deadline :
     (P : Table) (table : List ℕ) → length table ≡ tableBytes → isPlan (tableIn table) ≡ true → NoHarder P (tableIn table)
-    → (before after : Lists) → Bounding P before after (Accepted 1)
+    → (before after : Lists) → Bounding P before after (Verdict 1)
     → (task : ℕ) → RackEndsWithin table task (inForce (tableIn table) (pred task))
 rack-deadline P table size plan easier before after bounds task =
     ends-on-bytes table size plan task (inForce (tableIn table) (pred task))

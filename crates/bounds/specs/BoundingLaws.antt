@@ -7,7 +7,6 @@ use native.Mathlib.Omega.{arith, by-contra}
 use native.Mathlib.Numerals.{add-one}
 use lib.Dec.{leb}
 use lib.ListN.{length}
-use lib.IntN.{ℤ}
 use borrow.Author.Tests.{le-leb, lt-leb}
 use Rattle.facts.specs.Filled.{filled}
 use Rattle.facts.specs.FilledLaws.{getD-filled, length-filled}

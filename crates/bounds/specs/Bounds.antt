@@ -18,7 +18,7 @@ use Rattle.table.specs.Plan.{planOf, inForce}
 use Rattle.equations.specs.Row.{Row, work, RowBounds}
 use Rattle.equations.specs.Beside.{rowOf}
 use Rattle.bounds.specs.declared.Bounded.{Bounded}
-use Rattle.bounds.specs.declared.Bounded.the-variants.{Accepted, Refused}
+use Rattle.bounds.specs.declared.Bounded.the-variants.{Verdict, Refused}
 
 -- The longest busy length that counts: "It must be at most 10,000,000."
 abbrev pub limit : ℕ
@@ -107,5 +107,5 @@ pub data Refusing (T : Table) (before : Lists) (r : Refusal) : Type 0 where
 
 -- The whole outcome of the bounds of table T on the lent lists: a refusal leaves them as they were.
 abbrev pub Bounding : Table → Lists → Lists → Bounded → Type 0
-Bounding T before after (Accepted answer) = (isPlan T ≡ true) × (needed T before ≡ 0) × Given T before after answer
+Bounding T before after (Verdict answer) = (isPlan T ≡ true) × (needed T before ≡ 0) × Given T before after answer
 Bounding T before after (Refused r) = Refusing T before r × (after ≡ before)

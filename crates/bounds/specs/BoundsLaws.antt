@@ -20,7 +20,7 @@ use Rattle.table.specs.PlanLaws.{first-row-suc, first-row-mono}
 use Rattle.equations.specs.Row.{Row, work, RowBounds}
 use Rattle.equations.specs.RowLaws.{row-bounds-one}
 use Rattle.bounds.specs.declared.Bounded.{Bounded}
-use Rattle.bounds.specs.declared.Bounded.the-variants.{Accepted, Refused}
+use Rattle.bounds.specs.declared.Bounded.the-variants.{Verdict, Refused}
 use Rattle.bounds.specs.Bounds.{limit, equations, Numbers, Analysis, chainBound, slackOf, accepted, Lists, needed, filledIn, Stuck, Given, Refusing, no-plan, too-short, no-busy-length, Bounding}
 
 -- Two tables' worth of numbers agree on the rows.
@@ -92,7 +92,7 @@ refusal-one (no-busy-length e p z s) (no-busy-length e′ p′ z′ s′) =
 
 -- Where there are bounds, nothing is refused.
 pub given-not-refused :
-    {T : Table} {before after : Lists} {answer : ℕ} {r : Refusal} → Bounding T before after (Accepted answer) → Refusing T before r → ⊥
+    {T : Table} {before after : Lists} {answer : ℕ} {r : Refusal} → Bounding T before after (Verdict answer) → Refusing T before r → ⊥
 given-not-refused g (no-plan e n) = clash (g .0) n
 given-not-refused g (too-short e p s) = omega (arith, g .1)
 given-not-refused g (no-busy-length e p z s) = never-stuck (g .2 .analysis) s
@@ -108,7 +108,7 @@ given-one {T} {before} a b =
 pub bounding-one :
     (T : Table) (before after after′ : Lists) (r r′ : Bounded)
     → Bounding T before after r → Bounding T before after′ r′ → (after ≡ after′) × (r ≡ r′)
-bounding-one T before after after′ (Accepted x) (Accepted y) a b = let e = given-one (a .2) (b .2) in (e .0, ap Accepted (e .1))
-bounding-one T before after after′ (Accepted x) (Refused s) a b = absurd (given-not-refused a (b .0))
-bounding-one T before after after′ (Refused r) (Accepted y) a b = absurd (given-not-refused b (a .0))
+bounding-one T before after after′ (Verdict x) (Verdict y) a b = let e = given-one (a .2) (b .2) in (e .0, ap Verdict (e .1))
+bounding-one T before after after′ (Verdict x) (Refused s) a b = absurd (given-not-refused a (b .0))
+bounding-one T before after after′ (Refused r) (Verdict y) a b = absurd (given-not-refused b (a .0))
 bounding-one T before after after′ (Refused r) (Refused s) a b = (a .1 ∙ sym (b .1), ap Refused (refusal-one (a .0) (b .0)))

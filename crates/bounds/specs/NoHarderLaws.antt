@@ -27,7 +27,7 @@ use Rattle.equations.specs.RowLaws.{row-bounds}
 use Rattle.equations.specs.Beside.{rowOf}
 use Rattle.equations.specs.BesideLaws.{proper-of, Lighter, busy-lighter, row-bounds-lighter}
 use Rattle.bounds.specs.declared.Bounded.{Bounded}
-use Rattle.bounds.specs.declared.Bounded.the-variants.{Accepted, Refused}
+use Rattle.bounds.specs.declared.Bounded.the-variants.{Verdict, Refused}
 use Rattle.bounds.specs.SlackLaws.{less-sign, less-mono}
 use Rattle.bounds.specs.Bounds.{limit, equations, Numbers, Analysis, chainBound, slackOf, accepted, Lists, needed, filledIn, Stuck, Given, Refusing, no-plan, too-short, no-busy-length, Bounding}
 use Rattle.bounds.specs.BoundsLaws.{step-row, never-stuck}
@@ -156,10 +156,10 @@ module _ {T S : Table} (h : NoHarder T S) where
 -- Table S is a plan and no harder than table T, whose bounds are given: on lists that are long enough S's bounds are given
 -- too, none larger and no slack smaller, and S is accepted if T is.
 pub no-harder :
-    (T S : Table) → NoHarder T S → (before after : Lists) (answer : ℕ) → Bounding T before after (Accepted answer)
+    (T S : Table) → NoHarder T S → (before after : Lists) (answer : ℕ) → Bounding T before after (Verdict answer)
     → isPlan S ≡ true → (before′ after′ : Lists) → needed S before′ ≡ 0 → (r : Bounded) → Bounding S before′ after′ r
-    → (answer′ : ℕ) × (r ≡ Accepted answer′) × NoLarger T after after′ × (answer ≡ 1 → answer′ ≡ 1)
-no-harder T S h before after answer g plan before′ after′ room (Accepted answer′) b =
+    → (answer′ : ℕ) × (r ≡ Verdict answer′) × NoLarger T after after′ × (answer ≡ 1 → answer′ ≡ 1)
+no-harder T S h before after answer g plan before′ after′ room (Verdict answer′) b =
     let s : Smaller T (g .2 .numbers) (b .2 .numbers) = smaller h (checked T (g .0)) (checked S plan) (g .2 .analysis) (b .2 .analysis) in
     (answer′, refl, rw (g .2 .lists, b .2 .lists) (lists-smaller h s before before′), stays s (accepted T (g .2 .numbers)) refl)
   where

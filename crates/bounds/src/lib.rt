@@ -23,7 +23,7 @@ ghost use Rattle.bounds.specs.Rows.{Viewing, neededFor};
 // What the bounds answer.
 pub enum Bounded {
     // 1 if the plan is accepted, else 0: every slack is zero or more, or one is not.
-    Accepted(u64),
+    Verdict(u64),
     Refused(Refusal),
 }
 
@@ -151,5 +151,5 @@ pub fn bound(
     }
     fill_rows(count, &spans, &counts, &worst, busy, instances, bounds);
     let accepted = fill_chains(chained, period, deadline, steps, &worst, chains, slack);
-    Bounded::Accepted(accepted)
+    Bounded::Verdict(accepted)
 }

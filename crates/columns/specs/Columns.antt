@@ -25,11 +25,11 @@ blankOf processors tasks = record {
   time = replicate 128 0;
 }
 
--- The record of task i, counted from 0; 0 where there is no task i.
+-- The record at place i of the task columns, counted from 0; all 0 past their end.
 abbrev pub chainOf : Columns → ℕ → Chain
 chainOf c i = record { period = at (c .period) i; deadline = at (c .deadline) i; steps = at (c .steps) i }
 
--- The record of row i, counted from 0; 0 where there is no row i.
+-- The record at place i of the row columns, counted from 0; all 0 past their end.
 abbrev pub rowOf : Columns → ℕ → Row
 rowOf c i = record { processor = at (c .processor) i; priority = at (c .priority) i; time = at (c .time) i }
 

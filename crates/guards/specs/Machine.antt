@@ -61,7 +61,7 @@ letGo P m = record {
   guard = λ r. cond (due P m r) (m .clock + P .period r) (m .guard r);
 }
 
--- The rows before step 5 of a tick: which of them step 5 releases.
+-- The rows after steps 1 to 4 of a tick, before step 5.
 unfoldable pub beforeRelease : Plan → Moment → (ℕ → Bool) → Moment
 beforeRelease P m done = opened P (worked P m done)
 

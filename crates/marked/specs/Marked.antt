@@ -13,7 +13,7 @@ use Rattle.table.specs.Refusals.{numberOf, placeOf}
 use Rattle.table.specs.declared.refusal.Refusal.{Refusal}
 use Rattle.planfile.specs.Reading.{table, held}
 use Rattle.equations.specs.Row.{Row, workTo}
-use Rattle.bounds.specs.declared.Bounded.the-variants.{Accepted, Refused as NotBounded}
+use Rattle.bounds.specs.declared.Bounded.the-variants.{Verdict, Refused as NotBounded}
 use Rattle.bounds.specs.Bounds.{equations, Numbers, accepted, Lists, needed, filledIn, Bounding}
 use Rattle.report.specs.declared.Reporting.the-variants.{Bytes}
 use Rattle.report.specs.Reporting.{FileReported}
@@ -69,7 +69,7 @@ numbersOf expected = record {
 pub record HasBounds (T : Table) (expected : List RowNumbers) : Type 0 where
   pub outcome :
       (lent : Lists) → needed T lent ≡ 0
-      → Bounding T lent (filledIn T (numbersOf expected) lent) (Accepted (cond (accepted T (numbersOf expected)) 1 0))
+      → Bounding T lent (filledIn T (numbersOf expected) lent) (Verdict (cond (accepted T (numbersOf expected)) 1 0))
   pub counted : (r : ℕ) → r < rows T → length (expectedOf expected r .instanceBounds) ≡ expectedOf expected r .instances
   pub each :
       (r : ℕ) → r < rows T → (k : ℕ) → k < expectedOf expected r .instances

@@ -6,7 +6,8 @@ use Rattle.table.specs.Table.{Table, at, rows}
 use Rattle.planfile.specs.Words.{lineOf}
 use Rattle.planfile.specs.Draft.{Draft, blank, advanced}
 
--- The value that the table has for the key due: `plan` is 1, `task` the next number, a list's next entry else.
+-- The value that the table has for the key due: `plan` is 1, `processors` and `tasks` are its counts, `task` is the next
+-- number, and any other key takes its list's next entry.
 unfoldable pub valueFor : Table → Draft → ℕ
 valueFor T d =
     getD

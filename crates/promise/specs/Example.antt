@@ -22,7 +22,7 @@ use Rattle.equations.specs.Row.{work, workTo, RowBounds}
 use Rattle.equations.specs.RowTest.{found, settled, worst, allSettled, rowTest, row-test}
 use Rattle.equations.specs.Beside.{level, beside, demand, rowOf}
 use Rattle.equations.specs.BesideLaws.{proper-of}
-use Rattle.bounds.specs.declared.Bounded.the-variants.{Accepted}
+use Rattle.bounds.specs.declared.Bounded.the-variants.{Verdict}
 use Rattle.bounds.specs.Bounds.{limit, equations, Numbers, chainBound, slackOf, accepted, Lists, needed, filledIn, Bounding}
 use Rattle.bounds.specs.NoHarder.{NoHarder}
 use Rattle.guards.specs.declared.state.State.{State}
@@ -136,7 +136,7 @@ paper-rows r l =
     (all-at 4 (λ r. rowTest (equations paperPlan r) 9 (paperNumbers .busy r) (paperNumbers .instances r) (paperNumbers .bound r)) refl r l)
 
 -- The bounds of document 01's plan are given, and it is accepted.
-pub paper-bounds : Bounding paperPlan lent (filledIn paperPlan paperNumbers lent) (Accepted 1)
+pub paper-bounds : Bounding paperPlan lent (filledIn paperPlan paperNumbers lent) (Verdict 1)
 unfolding paperPlan paperNumbers lent needed longEnough accepted slackOf chainBound inForce filledIn rows firstRow all sum tab
 paper-bounds = (
   plans .0,

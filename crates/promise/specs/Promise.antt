@@ -7,7 +7,7 @@ use mathlib.Core.List.{List, [], _∷_}
 use Rattle.table.specs.Table.{Table, at, firstRow}
 use Rattle.table.specs.Plan.{inForce}
 use Rattle.bounds.specs.declared.Bounded.{Bounded}
-use Rattle.bounds.specs.declared.Bounded.the-variants.{Accepted}
+use Rattle.bounds.specs.declared.Bounded.the-variants.{Verdict}
 use Rattle.bounds.specs.Bounds.{Lists, needed, Bounding}
 use Rattle.bounds.specs.NoHarder.{NoLarger}
 use Rattle.guards.specs.declared.state.State.{State}
@@ -67,7 +67,7 @@ pub record Promised (P Q : Table) (lists : Lists) (answer : ℕ) : Type 0 where
   -- accepted if P is.
   pub no-larger :
       (before after : Lists) → needed Q before ≡ 0 → (outcome : Bounded) → Bounding Q before after outcome
-      → (own : ℕ) × (outcome ≡ Accepted own) × NoLarger P lists after × (answer ≡ 1 → own ≡ 1)
+      → (own : ℕ) × (outcome ≡ Verdict own) × NoLarger P lists after × (answer ≡ 1 → own ≡ 1)
   -- The second half: every instance of a task of Q ends within the bound of P's chain.
   pub in-time : (task : ℕ) → EndsWithin Q task (at (lists .chain) (pred task))
   -- So where P is accepted, every instance of a task of Q ends within its deadline in force.

@@ -13,7 +13,7 @@ use Rattle.table.specs.TableLaws.{checked}
 use Rattle.table.specs.Plan.{planOf, inForce}
 use Rattle.table.specs.PlanLaws.{right-of}
 use Rattle.equations.specs.Safe.{bounds-safe}
-use Rattle.bounds.specs.declared.Bounded.the-variants.{Accepted}
+use Rattle.bounds.specs.declared.Bounded.the-variants.{Verdict}
 use Rattle.bounds.specs.SlackLaws.{less-sign}
 use Rattle.bounds.specs.Bounds.{Numbers, Analysis, chainBound, slackOf, accepted, Lists, filledIn, Given, Bounding}
 use Rattle.bounds.specs.NoHarder.{NoHarder}
@@ -45,7 +45,7 @@ chain-listed {T} {before} g i l = rw (g .lists) (getD-filled (chainBound T (g .n
 -- Demand 3: table Q is a plan and no harder than table P, whose bounds are given.
 pub promise :
     (P Q : Table) → isPlan Q ≡ true → NoHarder P Q → (before after : Lists) (answer : ℕ)
-    → Bounding P before after (Accepted answer) → Promised P Q after answer
+    → Bounding P before after (Verdict answer) → Promised P Q after answer
 unfolding planOf chainBound
 promise P Q plan h before after answer b = record {
   no-larger = no-harder P Q h before after answer b plan;
@@ -84,6 +84,6 @@ no-harder-self P = record {
 }
 
 pub own-bounds :
-    (P : Table) (before after : Lists) (answer : ℕ) → Bounding P before after (Accepted answer)
+    (P : Table) (before after : Lists) (answer : ℕ) → Bounding P before after (Verdict answer)
     → Promised P P after answer
 own-bounds P before after answer b = promise P P (b .0) (no-harder-self P) before after answer b

@@ -15,7 +15,7 @@ tableBytes = 3856
 abbrev pub stateBytes : ℕ
 stateBytes = 4104
 
--- The tasks that a table list has room for.
+-- How many tasks the table of a list has, up to the 32 that the list has room for.
 unfoldable pub tasksIn : List ℕ → ℕ
 tasksIn l = min (word l 1) 32
 
@@ -23,7 +23,7 @@ tasksIn l = min (word l 1) 32
 unfoldable pub taskField : List ℕ → ℕ → List ℕ
 taskField l from = gathered l from 3 (tasksIn l) (replicate 32 0)
 
--- The rows that a table list has room for.
+-- How many rows the table of a list has, up to the 128 that the list has room for.
 unfoldable pub rowsIn : List ℕ → ℕ
 rowsIn l = min (sum (tasksIn l) (at (taskField l 4))) 128
 

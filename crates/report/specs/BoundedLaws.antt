@@ -16,7 +16,7 @@ use Rattle.table.specs.TableLaws.{checked, Long, long-true}
 use Rattle.table.specs.Plan.{planOf, inForce}
 use Rattle.table.specs.PlanLaws.{right-of}
 use Rattle.bounds.specs.declared.Bounded.{Bounded}
-use Rattle.bounds.specs.declared.Bounded.the-variants.{Accepted, Refused}
+use Rattle.bounds.specs.declared.Bounded.the-variants.{Verdict, Refused}
 use Rattle.bounds.specs.Bounds.{chainBound, slackOf, Lists, needed, filledIn, Given, Refusing, Bounding, no-plan, too-short, no-busy-length}
 use Rattle.report.specs.LoadLaws.{load-is}
 use Rattle.report.specs.Listed.{Listing, listing, listed, Filled}
@@ -126,7 +126,7 @@ module _ (T : Table) {n : ℕ} {periods : List ℕ} (seen : Viewed T n periods) 
 
 -- What a call of the bounds left, on a plan and in lists with room for any.
 module _ (T : Table) {n : ℕ} {periods : List ℕ} (seen : Viewed T n periods) (before after : Lists) (room : Roomy before) {b : Bounded} (left : Bounding T before after b) where
-  giving : {answer : ℕ} → b ≡ Accepted answer → Given T before after answer
+  giving : {answer : ℕ} → b ≡ Verdict answer → Given T before after answer
   giving e = (rw e at left) .2
 
   refusing : {r : Refusal} → b ≡ Refused r → Refusing T before r
@@ -135,7 +135,7 @@ module _ (T : Table) {n : ℕ} {periods : List ℕ} (seen : Viewed T n periods) 
   pub bound-refuses : {r : Refusal} (out : List ℕ) → b ≡ Refused r → Reported T out (refused r out)
   bound-refuses out e = refusing-reported T (seen .plan) room (refusing e)
 
-  module _ {answer : ℕ} (e : b ≡ Accepted answer) where
+  module _ {answer : ℕ} (e : b ≡ Verdict answer) where
     pub bound-filled : Filled (bounded T n periods after answer)
     bound-filled = bounded-filled T seen room (giving e)
 

@@ -108,7 +108,7 @@ fn report_plan(
         &mut chains,
         &mut slack,
     ) {
-        Bounded::Accepted(accepted) => deliver_report(
+        Bounded::Verdict(accepted) => deliver_report(
             out,
             rows,
             tasks as usize,

@@ -33,7 +33,7 @@ tableOf processors tasks period deadline steps processor priority time = record 
   time = time;
 }
 
--- Entry i of a list, counted from 0.
+-- Entry i of a list, counted from 0; 0 past its end.
 abbrev pub at : List ℕ → ℕ → ℕ
 at l i = getD l i 0
 

@@ -1,6 +1,4 @@
-use Prim.Native.Nat.{ℕ, _≤_, _<_, _+_}
-use mathlib.Core.Path.{_≡_, refl, sym, _∙_}
-use lib.ListN.{length}
+use mathlib.Core.Path.{refl, _∙_}
 use Rattle.bounds.specs.Bounds.{listsOf}
 use Rattle.bounds.specs.BoundingLaws.{ready, refusing-no-plan, refusing-needed, needed-is, room-left, refusing-stuck, chained, given}
 use native.Mathlib.Omega.{arith}

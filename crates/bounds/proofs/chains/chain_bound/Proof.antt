@@ -1,5 +1,5 @@
-use Prim.Native.Nat.{ℕ, _≤_, _<_, _+_, _-_, _*_}
-use mathlib.Core.Path.{_≡_, refl, sym, _∙_}
+use Prim.Native.Nat.{_≤_, _+_, _-_, _*_}
+use mathlib.Core.Path.{_≡_, sym}
 use Rattle.facts.specs.Sums.{sum}
 use Rattle.facts.specs.SumsLaws.{sum-none, sum-more}
 use Rattle.table.specs.Table.{at}

@@ -1,10 +1,10 @@
-use Prim.Native.Nat.{ℕ, _≤_, _<_, _+_, _-_, _*_}
+use Prim.Native.Nat.{ℕ, _≤_, _-_}
 use mathlib.Core.Path.{_≡_, refl, sym, _∙_, ap}
 use mathlib.Core.Logic.{⊎-elim}
 use lib.ListN.{length, length-set}
 use Rattle.facts.specs.Filled.{filled}
 use Rattle.facts.specs.FilledLaws.{filled-none, filled-more}
-use Rattle.table.specs.Table.{Table, at, firstRow}
+use Rattle.table.specs.Table.{Table, firstRow}
 use Rattle.table.specs.Plan.{inForce}
 use Rattle.bounds.specs.Bounds.{Numbers, chainBound, slackOf}
 use Rattle.bounds.specs.General.{filled-to}

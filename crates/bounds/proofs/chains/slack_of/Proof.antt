@@ -9,21 +9,21 @@ use Rattle.bounds.proofs.chains.slack_of.Tie as tie
 use Rattle.bounds.proofs.chains.slack_of.Reads as reads
 use Rattle.bounds.proofs.chains.slack_of.Lts as lts
 
--- src/chains.rt:31:6
+-- src/chains.rt:30:6
 cast-result : tie.Need-cast-result
 cast-result c = search needs
 
--- src/chains.rt:31:26
+-- src/chains.rt:30:26
 cast-result-2 : tie.Need-cast-result-2
 cast-result-2 c = search needs
 
--- src/chains.rt:31:5
+-- src/chains.rt:30:5
 sub-result : tie.Need-sub-result
 sub-result c =
     rw (toZ-pos w64 (c .args .deadline) (omega arith), toZ-pos w64 (c .args .bound) (omega arith))
     (record { sfits = mag-less (c .args .deadline) (c .args .bound) (omega arith) (omega arith) })
 
--- src/chains.rt:27:1
+-- src/chains.rt:26:1
 returns : tie.Need-returns
 returns c =
     toZ-ofZ w64 _ (sub-result c)

@@ -1,5 +1,5 @@
-use Prim.Native.Nat.{ℕ, _≤_, _<_, _+_, _-_, _*_}
-use mathlib.Core.Path.{_≡_, refl, sym, _∙_}
+use Prim.Native.Nat.{_≤_, _-_}
+use mathlib.Core.Path.{_≡_, refl, _∙_}
 use lib.ListN.{length}
 use Rattle.facts.specs.FilledLaws.{getD-filled}
 use Rattle.bounds.specs.Climb.{Climbing}
@@ -25,25 +25,25 @@ abbrev μ-loop : tie.MeasureT-loop
 μ-loop tied count span period cost due₀ later₀ begin₀ best₀ t₀ work₀ due later begin best t work =
     span - t
 
--- src/ends.rt:104:5
+-- src/ends.rt:107:5
 seek-first-requires : tie.Need-seek-first-requires Inv-loop μ-loop
 seek-first-requires c κs = let s = c .before .before .before .before .before .before .before .before in
     let ok = s .pre .0 .0 in
     let h = s .pre .0 .1 in
     (omega (arith, h, ok .periods), s .pre .1 .2, s .pre .1 .3, λ i g. ok .period-least i (omega (arith, h)))
 
--- src/ends.rt:106:9
+-- src/ends.rt:109:9
 begin-work-requires : tie.Need-begin-work-requires Inv-loop μ-loop
 begin-work-requires c κs = let s = c .before .before .before .before .before .before .before .before .before .before .before .before .before .before .before in
     (s .pre .0 .0, s .pre .1 .0, s .pre .1 .1)
 
--- src/ends.rt:107:5
+-- src/ends.rt:110:5
 loop-holds : tie.Need-loop-holds Inv-loop μ-loop
 loop-holds c = let s = c .before .before .before .before .before .before .before .before .before .before .before .before .before .before .before .before .before .before .before .before in
     let none = c .before .before .before .before .before .before .before .before .before .before .before .seek-first .ensures in
     (refl, refl, refl, refl, s .pre .0 .3 .pos, climb-first (s .pre .0 .0) (s .args .tied) (s .pre .0 .1) (c .before .before .before .before .begin-work .ensures) (λ i g. rw (none .0) (getD-filled (λ j. 0) (s .args .tied) i 0 _ g)) (λ i g. rw (none .1) (getD-filled (λ j. 0) (s .args .tied) i 0 _ g)))
 
--- src/ends.rt:108:9
+-- src/ends.rt:111:9
 settle-requires : tie.Need-settle-requires Inv-loop μ-loop
 settle-requires c κs = let s = c .before .before .before .before .before .before .before .before .before .before .before .before .before .before .before .before .before .before .before .before .before .before .before .before .before in
     let ok = s .pre .0 .0 in
@@ -57,7 +57,7 @@ settle-requires c κs = let s = c .before .before .before .before .before .befor
       (omega (arith, l .inv .1, long .1, h, c .before .before .before .before .before .before .before .before .before .begin-work .kept .1 .1 .1 .1 .0), omega (arith, l .inv .2, long .2, c .before .before .before .before .before .before .before .before .before .before .before .before .before .before .before .before .seek-first .kept .1 .1 .0), omega (arith, l .inv .3, long .3, c .before .before .before .before .before .before .before .before .before .before .before .before .before .before .before .before .seek-first .kept .1 .1 .1 .0)),
     )
 
--- src/ends.rt:109:17
+-- src/ends.rt:112:17
 advance-requires : tie.Need-advance-requires Inv-loop μ-loop
 advance-requires c κs = let s = c .before .before .before .before .before .before .before .before .before .before .before .before .before .before .before .before .before .before .before .before .before .before .before .before .before .before .before .before .before .before .before .before .before .before in
     let ok = s .pre .0 .0 in
@@ -73,7 +73,7 @@ advance-requires c κs = let s = c .before .before .before .before .before .befo
       climb-small ok after (omega (arith, l .inv .4, s .pre .0 .4)) .1,
     )
 
--- src/ends.rt:109:9
+-- src/ends.rt:112:9
 add-work : tie.Need-add-work Inv-loop μ-loop
 add-work c = let s = c .before .before .before .before .before .before .before .before .before .before .before .before .before .before .before .before .before .before .before .before .before .before .before .before .before .before .before .before .before .before .before .before .before .before .before .before .before .before .before in
     let ok = s .pre .0 .0 in
@@ -87,11 +87,11 @@ add-work c = let s = c .before .before .before .before .before .before .before .
     let next = climb-advance ok h after (c .before .before .before .before .advance .ensures) in
     omega (arith, climb-small ok next (omega (arith, climb-within ok after least, s .pre .0 .4)) .0)
 
--- src/ends.rt:107:5
+-- src/ends.rt:110:5
 loop-less : tie.Need-loop-less Inv-loop μ-loop
 loop-less c = omega (arith, c .before .before .before .before .before .before .before .before .before .before .before .before .before .settle .ensures .past, c .before .before .before .before .before .before .before .before .before .before .before .before .before .before .before .before .before .before .loop .inv .4)
 
--- src/ends.rt:107:5
+-- src/ends.rt:110:5
 loop-again : tie.Need-loop-again Inv-loop μ-loop
 loop-again c = let s = c .before .before .before .before .before .before .before .before .before .before .before .before .before .before .before .before .before .before .before .before .before .before .before .before .before .before .before .before .before .before .before .before .before .before .before .before .before .before .before in
     let ok = s .pre .0 .0 in
@@ -112,7 +112,7 @@ loop-again c = let s = c .before .before .before .before .before .before .before
       climb-advance ok h after (moved .ensures),
     )
 
--- src/ends.rt:111:5
+-- src/ends.rt:114:5
 settle-last-requires : tie.Need-settle-last-requires Inv-loop μ-loop
 settle-last-requires c κs = let long = c .before .before .before .before .before .before .before .before .before .before .before .before .before .before .before .before .before .before .before .before .before .before .before .before .pre .1 in
     let l = c .before .before .before .loop in (
@@ -121,23 +121,23 @@ settle-last-requires c κs = let long = c .before .before .before .before .befor
       λ i g. (let e = l .inv .5 .each i g .came in omega (arith, e, l .inv .4)),
     )
 
--- src/ends.rt:89:1
+-- src/ends.rt:92:1
 same-length : tie.Need-same-length Inv-loop μ-loop
 same-length c = search needs
 
--- src/ends.rt:89:1
+-- src/ends.rt:92:1
 same-length-2 : tie.Need-same-length-2 Inv-loop μ-loop
 same-length-2 c = search needs
 
--- src/ends.rt:89:1
+-- src/ends.rt:92:1
 same-length-3 : tie.Need-same-length-3 Inv-loop μ-loop
 same-length-3 c = search needs
 
--- src/ends.rt:89:1
+-- src/ends.rt:92:1
 same-length-4 : tie.Need-same-length-4 Inv-loop μ-loop
 same-length-4 c = search needs
 
--- src/ends.rt:89:1
+-- src/ends.rt:92:1
 returns : tie.Need-returns Inv-loop μ-loop
 returns c = let s = c .before .before .before .before .before .before .before .before .before .before .before .before .before .before .before .before .before .before .before .before .before .before .before .before .before .before .before in
     let l = c .before .before .before .before .before .before .loop in

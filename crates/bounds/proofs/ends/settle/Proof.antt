@@ -40,165 +40,165 @@ turned c =
     (c .if1 .came)
 
 -- </defs>
--- src/ends.rt:52:5
+-- src/ends.rt:49:5
 loop-holds : tie.Need-loop-holds Inv-loop μ-loop
 loop-holds c = (omega arith, refl, refl, refl, settled-none _ _ _ _ _ _ _ (c .before .before .before .before .before .pre .0 .2 .past))
 
--- src/ends.rt:53:19
+-- src/ends.rt:50:19
 mul-if1 : tie.Need-mul-if1 Inv-loop μ-loop
 mul-if1 c = search needs
 
--- src/ends.rt:53:19
+-- src/ends.rt:50:19
 slice-read-if1 : tie.Need-slice-read-if1 Inv-loop μ-loop
 slice-read-if1 c = search needs
 
--- src/ends.rt:53:12
+-- src/ends.rt:50:12
 sub-if1 : tie.Need-sub-if1 Inv-loop μ-loop
 sub-if1 c =
     let l = c .before .before .loop in
     let pre = c .before .before .before .before .before .before .before .before .pre in
     omega (arith, unsettled-rises _ _ _ _ _ _ _ (omega arith) (pre .0 .2) (l .inv .1) (l .inv .2) (l .inv .3) (omega arith) (omega arith) (omega arith) (l .inv .4))
 
--- src/ends.rt:54:31
+-- src/ends.rt:51:31
 mul-greater : tie.Need-mul-greater Inv-loop μ-loop
 mul-greater c = search needs
 
--- src/ends.rt:54:31
+-- src/ends.rt:51:31
 slice-read-greater : tie.Need-slice-read-greater Inv-loop μ-loop
 slice-read-greater c = search needs
 
--- src/ends.rt:54:44
+-- src/ends.rt:51:44
 mul-greater-2 : tie.Need-mul-greater-2 Inv-loop μ-loop
 mul-greater-2 c = search needs
 
--- src/ends.rt:54:44
+-- src/ends.rt:51:44
 slice-read-greater-2 : tie.Need-slice-read-greater-2 Inv-loop μ-loop
 slice-read-greater-2 c = search needs
 
--- src/ends.rt:54:40
+-- src/ends.rt:51:40
 sub-greater : tie.Need-sub-greater Inv-loop μ-loop
 sub-greater c =
     let l = c .before .before .before .before .before .loop in
     let pre = c .before .before .before .before .before .before .before .before .before .before .before .pre in
     omega (arith, unsettled-begun _ _ _ _ _ _ _ (omega arith) (pre .0 .2) (l .inv .1) (l .inv .2) (l .inv .3) (omega arith) (omega arith) (omega arith) (l .inv .4))
 
--- src/ends.rt:54:23
+-- src/ends.rt:51:23
 greater-requires : tie.Need-greater-requires Inv-loop μ-loop
 greater-requires c κs = search needs
 
--- src/ends.rt:54:13
+-- src/ends.rt:51:13
 mul-best : tie.Need-mul-best Inv-loop μ-loop
 mul-best c = search needs
 
--- src/ends.rt:54:13
+-- src/ends.rt:51:13
 slice-write-best : tie.Need-slice-write-best Inv-loop μ-loop
 slice-write-best c = search needs
 
--- src/ends.rt:55:24
+-- src/ends.rt:52:24
 mul-begin : tie.Need-mul-begin Inv-loop μ-loop
 mul-begin c = search needs
 
--- src/ends.rt:55:24
+-- src/ends.rt:52:24
 slice-read-begin : tie.Need-slice-read-begin Inv-loop μ-loop
 slice-read-begin c = search needs
 
--- src/ends.rt:55:35
+-- src/ends.rt:52:35
 mul-begin-2 : tie.Need-mul-begin-2 Inv-loop μ-loop
 mul-begin-2 c = search needs
 
--- src/ends.rt:55:35
+-- src/ends.rt:52:35
 shared-slice-read-begin : tie.Need-shared-slice-read-begin Inv-loop μ-loop
 shared-slice-read-begin c = search needs
 
--- src/ends.rt:55:24
+-- src/ends.rt:52:24
 add-begin : tie.Need-add-begin Inv-loop μ-loop
 add-begin c =
     let l = c .before .before .before .before .before .before .before .before .loop in
     let pre = c .before .before .before .before .before .before .before .before .before .before .before .before .before .before .pre in
     omega (arith, unsettled-begun _ _ _ _ _ _ _ (omega arith) (pre .0 .2) (l .inv .1) (l .inv .2) (l .inv .3) (omega arith) (omega arith) (omega arith) (l .inv .4), pre .0 .0 .period-most (l .i) (omega arith))
 
--- src/ends.rt:55:13
+-- src/ends.rt:52:13
 mul-begin-3 : tie.Need-mul-begin-3 Inv-loop μ-loop
 mul-begin-3 c = search needs
 
--- src/ends.rt:55:13
+-- src/ends.rt:52:13
 slice-write-begin : tie.Need-slice-write-begin Inv-loop μ-loop
 slice-write-begin c = search needs
 
--- src/ends.rt:56:24
+-- src/ends.rt:53:24
 mul-later : tie.Need-mul-later Inv-loop μ-loop
 mul-later c = search needs
 
--- src/ends.rt:56:24
+-- src/ends.rt:53:24
 slice-read-later : tie.Need-slice-read-later Inv-loop μ-loop
 slice-read-later c = search needs
 
--- src/ends.rt:56:35
+-- src/ends.rt:53:35
 mul-later-2 : tie.Need-mul-later-2 Inv-loop μ-loop
 mul-later-2 c = search needs
 
--- src/ends.rt:56:35
+-- src/ends.rt:53:35
 shared-slice-read-later : tie.Need-shared-slice-read-later Inv-loop μ-loop
 shared-slice-read-later c = search needs
 
--- src/ends.rt:56:24
+-- src/ends.rt:53:24
 sub-later : tie.Need-sub-later Inv-loop μ-loop
 sub-later c =
     let l = c .before .before .before .before .before .before .before .before .before .before .loop in
     let pre = c .before .before .before .before .before .before .before .before .before .before .before .before .before .before .before .before .pre in
     unsettled-whole _ _ _ _ _ _ _ (omega arith) (pre .0 .2) (l .inv .1) (l .inv .2) (l .inv .3) (omega arith) (omega arith) (omega arith) (l .inv .4) (c .before .before .before .before .before .before .before .if1 .taken)
 
--- src/ends.rt:56:13
+-- src/ends.rt:53:13
 mul-later-3 : tie.Need-mul-later-3 Inv-loop μ-loop
 mul-later-3 c = search needs
 
--- src/ends.rt:56:13
+-- src/ends.rt:53:13
 slice-write-later : tie.Need-slice-write-later Inv-loop μ-loop
 slice-write-later c = search needs
 
--- src/ends.rt:58:36
+-- src/ends.rt:55:36
 mul-lesser : tie.Need-mul-lesser Inv-loop μ-loop
 mul-lesser c = search needs
 
--- src/ends.rt:58:36
+-- src/ends.rt:55:36
 slice-read-lesser : tie.Need-slice-read-lesser Inv-loop μ-loop
 slice-read-lesser c = let e = turned (c .before) .later-size in omega arith
 
--- src/ends.rt:58:29
+-- src/ends.rt:55:29
 sub-lesser : tie.Need-sub-lesser Inv-loop μ-loop
 sub-lesser c = turned (c .before) .within
 
--- src/ends.rt:58:9
+-- src/ends.rt:55:9
 lesser-requires : tie.Need-lesser-requires Inv-loop μ-loop
 lesser-requires c κs = search needs
 
--- src/ends.rt:59:9
+-- src/ends.rt:56:9
 add-i : tie.Need-add-i Inv-loop μ-loop
 add-i c = search needs
 
--- src/ends.rt:52:5
+-- src/ends.rt:49:5
 loop-less : tie.Need-loop-less Inv-loop μ-loop
 loop-less c = search needs
 
--- src/ends.rt:52:5
+-- src/ends.rt:49:5
 loop-again : tie.Need-loop-again Inv-loop μ-loop
 loop-again c =
     let j = turned (c .before .before) in
     (omega arith, j .later-size, j .begin-size, j .best-size, j .turn _ (c .lesser .ensures))
 
--- src/ends.rt:36:1
+-- src/ends.rt:33:1
 same-length : tie.Need-same-length Inv-loop μ-loop
 same-length c = search needs
 
--- src/ends.rt:36:1
+-- src/ends.rt:33:1
 same-length-2 : tie.Need-same-length-2 Inv-loop μ-loop
 same-length-2 c = search needs
 
--- src/ends.rt:36:1
+-- src/ends.rt:33:1
 same-length-3 : tie.Need-same-length-3 Inv-loop μ-loop
 same-length-3 c = search needs
 
--- src/ends.rt:36:1
+-- src/ends.rt:33:1
 returns : tie.Need-returns Inv-loop μ-loop
 returns c =
     let l = c .before .loop in

@@ -22,51 +22,51 @@ abbrev μ-loop : tie.MeasureT-loop
 μ-loop tied span begin best₀ i₀ best i =
     tied - i
 
--- src/ends.rt:70:5
+-- src/ends.rt:67:5
 loop-holds : tie.Need-loop-holds Inv-loop μ-loop
 loop-holds c = (omega arith, refl, filled-none _ _)
 
--- src/ends.rt:71:27
+-- src/ends.rt:68:27
 mul-greater : tie.Need-mul-greater Inv-loop μ-loop
 mul-greater c = search needs
 
--- src/ends.rt:71:27
+-- src/ends.rt:68:27
 slice-read-greater : tie.Need-slice-read-greater Inv-loop μ-loop
 slice-read-greater c = search needs
 
--- src/ends.rt:71:43
+-- src/ends.rt:68:43
 mul-greater-2 : tie.Need-mul-greater-2 Inv-loop μ-loop
 mul-greater-2 c = search needs
 
--- src/ends.rt:71:43
+-- src/ends.rt:68:43
 shared-slice-read-greater : tie.Need-shared-slice-read-greater Inv-loop μ-loop
 shared-slice-read-greater c = search needs
 
--- src/ends.rt:71:36
+-- src/ends.rt:68:36
 sub-greater : tie.Need-sub-greater Inv-loop μ-loop
 sub-greater c = c .before .before .before .before .before .before .pre .2 (c .before .before .before .loop .i) (omega arith)
 
--- src/ends.rt:71:19
+-- src/ends.rt:68:19
 greater-requires : tie.Need-greater-requires Inv-loop μ-loop
 greater-requires c κs = search needs
 
--- src/ends.rt:71:9
+-- src/ends.rt:68:9
 mul-best : tie.Need-mul-best Inv-loop μ-loop
 mul-best c = search needs
 
--- src/ends.rt:71:9
+-- src/ends.rt:68:9
 slice-write-best : tie.Need-slice-write-best Inv-loop μ-loop
 slice-write-best c = search needs
 
--- src/ends.rt:72:9
+-- src/ends.rt:69:9
 add-i : tie.Need-add-i Inv-loop μ-loop
 add-i c = search needs
 
--- src/ends.rt:70:5
+-- src/ends.rt:67:5
 loop-less : tie.Need-loop-less Inv-loop μ-loop
 loop-less c = search needs
 
--- src/ends.rt:70:5
+-- src/ends.rt:67:5
 loop-again : tie.Need-loop-again Inv-loop μ-loop
 loop-again c =
     let l = c .before .before .before .before .loop in (
@@ -75,11 +75,11 @@ loop-again c =
       filled-turn _ _ _ _ (l .inv .2) _ (omega arith) (λ e. c .greater .ensures ∙ rw e),
     )
 
--- src/ends.rt:65:1
+-- src/ends.rt:62:1
 same-length : tie.Need-same-length Inv-loop μ-loop
 same-length c = search needs
 
--- src/ends.rt:65:1
+-- src/ends.rt:62:1
 returns : tie.Need-returns Inv-loop μ-loop
 returns c =
     let l = c .before .loop in

@@ -28,121 +28,121 @@ abbrev μ-loop : tie.MeasureT-loop
 μ-loop count t period cost due₀ later₀ fresh₀ i₀ due later fresh i =
     count - i
 
--- src/level.rt:169:5
+-- src/level.rt:171:5
 loop-holds : tie.Need-loop-holds Inv-loop μ-loop
 loop-holds c = (omega arith, refl, refl, advanced-none _ _ _ _ _, omega arith)
 
--- src/level.rt:170:19
+-- src/level.rt:172:19
 mul-was : tie.Need-mul-was Inv-loop μ-loop
 mul-was c = search needs
 
--- src/level.rt:170:19
+-- src/level.rt:172:19
 slice-read-was : tie.Need-slice-read-was Inv-loop μ-loop
 slice-read-was c = search needs
 
--- src/level.rt:172:35
+-- src/level.rt:174:35
 sub-periods-in : tie.Need-sub-periods-in Inv-loop μ-loop
 sub-periods-in c = search needs
 
--- src/level.rt:172:44
+-- src/level.rt:174:44
 mul-periods-in : tie.Need-mul-periods-in Inv-loop μ-loop
 mul-periods-in c = search needs
 
--- src/level.rt:172:44
+-- src/level.rt:174:44
 shared-slice-read-periods-in : tie.Need-shared-slice-read-periods-in Inv-loop μ-loop
 shared-slice-read-periods-in c = search needs
 
--- src/level.rt:172:17
+-- src/level.rt:174:17
 periods-in-requires : tie.Need-periods-in-requires Inv-loop μ-loop
 periods-in-requires c κs =
     let ok = c .before .before .before .before .before .before .before .before .before .pre .0 .0 in
     let l = c .before .before .before .before .loop in
     (omega arith, omega arith, ok .period-least (l .i) (omega arith), ok .period-most (l .i) (omega arith))
 
--- src/level.rt:173:31
+-- src/level.rt:175:31
 mul-work : tie.Need-mul-work Inv-loop μ-loop
 mul-work c = search needs
 
--- src/level.rt:173:31
+-- src/level.rt:175:31
 shared-slice-read-work : tie.Need-shared-slice-read-work Inv-loop μ-loop
 shared-slice-read-work c = search needs
 
--- src/level.rt:173:24
+-- src/level.rt:175:24
 mul-work-2 : tie.Need-mul-work-2 Inv-loop μ-loop
 mul-work-2 c =
     let l = c .before .before .before .before .before .before .loop in
     let ok = c .before .before .before .before .before .before .before .before .before .before .before .pre .0 .0 in
     omega (arith, came-small (c .before .periods-in .ensures) (ok .period-least (l .i) (omega arith)) (omega arith) (ok .cost-most (l .i) (omega arith)))
 
--- src/level.rt:174:35
+-- src/level.rt:176:35
 mul-due : tie.Need-mul-due Inv-loop μ-loop
 mul-due c = search needs
 
--- src/level.rt:174:35
+-- src/level.rt:176:35
 shared-slice-read-due : tie.Need-shared-slice-read-due Inv-loop μ-loop
 shared-slice-read-due c = search needs
 
--- src/level.rt:174:28
+-- src/level.rt:176:28
 mul-due-2 : tie.Need-mul-due-2 Inv-loop μ-loop
 mul-due-2 c =
     let l = c .before .before .before .before .before .before .before .loop in
     let ok = c .before .before .before .before .before .before .before .before .before .before .before .before .pre .0 .0 in
     omega (arith, came-small (c .before .before .periods-in .ensures) (ok .period-least (l .i) (omega arith)) (omega arith) (ok .period-most (l .i) (omega arith)))
 
--- src/level.rt:174:22
+-- src/level.rt:176:22
 add-due : tie.Need-add-due Inv-loop μ-loop
 add-due c =
     let l = c .before .before .before .before .before .before .before .loop in
     let ok = c .before .before .before .before .before .before .before .before .before .before .before .before .pre .0 .0 in
     omega (arith, came-small (c .before .before .periods-in .ensures) (ok .period-least (l .i) (omega arith)) (omega arith) (ok .period-most (l .i) (omega arith)))
 
--- src/level.rt:174:13
+-- src/level.rt:176:13
 mul-due-3 : tie.Need-mul-due-3 Inv-loop μ-loop
 mul-due-3 c = search needs
 
--- src/level.rt:174:13
+-- src/level.rt:176:13
 slice-write-due : tie.Need-slice-write-due Inv-loop μ-loop
 slice-write-due c = search needs
 
--- src/level.rt:175:24
+-- src/level.rt:177:24
 mul-later : tie.Need-mul-later Inv-loop μ-loop
 mul-later c = search needs
 
--- src/level.rt:175:24
+-- src/level.rt:177:24
 slice-read-later : tie.Need-slice-read-later Inv-loop μ-loop
 slice-read-later c = search needs
 
--- src/level.rt:175:24
+-- src/level.rt:177:24
 add-later : tie.Need-add-later Inv-loop μ-loop
 add-later c =
     let l = c .before .before .before .before .before .before .before .before .loop in
     let ok = c .before .before .before .before .before .before .before .before .before .before .before .before .before .pre .0 .0 in
     omega (arith, came-small (c .before .before .before .periods-in .ensures) (ok .period-least (l .i) (omega arith)) (omega arith) (ok .cost-most (l .i) (omega arith)), later-at-first _ _ _ _ _ (l .inv .3), c .before .before .before .before .before .before .before .before .before .before .before .before .before .pre .1 (l .i) (omega arith))
 
--- src/level.rt:175:13
+-- src/level.rt:177:13
 mul-later-2 : tie.Need-mul-later-2 Inv-loop μ-loop
 mul-later-2 c = search needs
 
--- src/level.rt:175:13
+-- src/level.rt:177:13
 slice-write-later : tie.Need-slice-write-later Inv-loop μ-loop
 slice-write-later c = search needs
 
--- src/level.rt:176:13
+-- src/level.rt:178:13
 add-fresh : tie.Need-add-fresh Inv-loop μ-loop
 add-fresh c =
     let l = c .before .before .before .before .before .before .before .before .loop in
     let ok = c .before .before .before .before .before .before .before .before .before .before .before .before .before .pre .0 .0 in
     omega (arith, came-small (c .before .before .before .periods-in .ensures) (ok .period-least (l .i) (omega arith)) (omega arith) (ok .cost-most (l .i) (omega arith)), l .inv .4, ok .few)
 
--- src/level.rt:178:9
+-- src/level.rt:180:9
 add-i : tie.Need-add-i Inv-loop μ-loop
 add-i c = search needs
 
--- src/level.rt:169:5
+-- src/level.rt:171:5
 loop-less : tie.Need-loop-less Inv-loop μ-loop
 loop-less c = search needs
 
--- src/level.rt:169:5
+-- src/level.rt:171:5
 loop-again : tie.Need-loop-again Inv-loop μ-loop
 loop-again c =
     let l = c .before .before .before .loop in
@@ -164,15 +164,15 @@ loop-again c =
     ))
     (c .if1 .came)
 
--- src/level.rt:155:1
+-- src/level.rt:157:1
 same-length : tie.Need-same-length Inv-loop μ-loop
 same-length c = search needs
 
--- src/level.rt:155:1
+-- src/level.rt:157:1
 same-length-2 : tie.Need-same-length-2 Inv-loop μ-loop
 same-length-2 c = search needs
 
--- src/level.rt:155:1
+-- src/level.rt:157:1
 returns : tie.Need-returns Inv-loop μ-loop
 returns c =
     let l = c .before .loop in

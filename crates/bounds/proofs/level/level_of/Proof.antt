@@ -1,4 +1,4 @@
-use mathlib.Core.Path.{_≡_, refl, sym, _∙_}
+use mathlib.Core.Path.{_∙_}
 use Rattle.bounds.specs.LevelLaws.{first-room, room-after, level-built}
 use native.Mathlib.Omega.{arith}
 use borrow.Author.Needs.{needs}

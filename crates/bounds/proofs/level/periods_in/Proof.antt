@@ -8,23 +8,23 @@ use Rattle.bounds.proofs.level.periods_in.Tie as tie
 use Rattle.bounds.proofs.level.periods_in.Reads as reads
 use Rattle.bounds.proofs.level.periods_in.Lts as lts
 
--- src/level.rt:127:9
+-- src/level.rt:126:9
 returns : tie.Need-returns
 returns c = sym (ceil-one (omega arith) (omega arith))
 
--- src/level.rt:129:15
+-- src/level.rt:128:15
 sub-result : tie.Need-sub-result
 sub-result c = search needs
 
--- src/level.rt:129:6
+-- src/level.rt:128:6
 add-result : tie.Need-add-result
 add-result c = search needs
 
--- src/level.rt:129:5
+-- src/level.rt:128:5
 div-result : tie.Need-div-result
 div-result c = search needs
 
--- src/level.rt:122:1
+-- src/level.rt:121:1
 returns-2 : tie.Need-returns-2
 unfolding ceil
 returns-2 c = refl

@@ -6,7 +6,7 @@ use Rattle.bounds.proofs.level.zeros.Tie as tie
 use Rattle.bounds.proofs.level.zeros.Reads as reads
 use Rattle.bounds.proofs.level.zeros.Lts as lts
 
--- src/level.rt:23:1
+-- src/level.rt:20:1
 returns : tie.Need-returns
 returns c = zeros-of
 

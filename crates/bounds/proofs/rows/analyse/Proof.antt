@@ -1,8 +1,8 @@
 use Rattle.bounds.specs.LevelLaws.{lent-same, partly-skip, partly-laid}
-use Prim.Native.Nat.{ℕ, _≤_, _<_, _+_, _-_, _*_}
-use mathlib.Core.Path.{_≡_, refl, sym, _∙_}
-use mathlib.Core.List.{List, []}
-use mathlib.Core.Logic.{_⊎_, inl, inr, ⊎-elim}
+use Prim.Native.Nat.{_≤_, _-_}
+use mathlib.Core.Path.{_≡_, refl, _∙_}
+use mathlib.Core.List.{[]}
+use mathlib.Core.Logic.{inl, ⊎-elim}
 use lib.ListN.{length}
 use Rattle.bounds.specs.General.{unanswered-ext}
 use Rattle.bounds.specs.Climb.{Climbing}
