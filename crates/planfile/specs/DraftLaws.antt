@@ -55,7 +55,7 @@ pub record Shape (d : Draft) : Type 0 where
   pub row-left : rowsAsked (d .table) ≤ length (d .table .time) + byKey (0 ∷ 0 ∷ 0 ∷ 0 ∷ 0 ∷ 0 ∷ 0 ∷ 16 ∷ 16 ∷ 16 ∷ 0 ∷ []) d
 
 -- The value of the line due is right: in its range, and not too many rows.
-pub record Verdict (d : Draft) (v : ℕ) : Type 0 where
+pub record Accepted (d : Draft) (v : ℕ) : Type 0 where
   pub range : inRange (d .key) (own d) v ≡ true
   pub rows : tooMany d v ≡ false
 
@@ -105,7 +105,7 @@ after-row T P row task none = go (decLt (length (T .time)) (rowsAsked T)) (decLt
 -- The line of the key due keeps the shape.
 abbrev Keeps : ℕ → Type 0
 Keeps key =
-    (T : Table) (v : ℕ) → Shape (draftOf key T) → Verdict (draftOf key T) v
+    (T : Table) (v : ℕ) → Shape (draftOf key T) → Accepted (draftOf key T) v
     → Shape (advanced (draftOf key T) v)
 
 keeps-time : Keeps timeKey
@@ -131,7 +131,7 @@ keeps = record {
   none = λ key h T v s a. absurd (none-in-range key _ v h (a .range));
 }
 
-pub shape-next : (d : Draft) (v : ℕ) → Shape d → Verdict d v → Shape (advanced d v)
+pub shape-next : (d : Draft) (v : ℕ) → Shape d → Accepted d v → Shape (advanced d v)
 shape-next d v s a = by-key keeps (d .key) (d .table) v s a
 
 -- The lines that a draft has: three first, four for each task and three for each row, and those of the task or row that is given.

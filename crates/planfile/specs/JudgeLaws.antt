@@ -11,7 +11,7 @@ use Rattle.planfile.specs.declared.line.Line.the-variants.{Value, Fault}
 use Rattle.planfile.specs.declared.read.Judged.{Judged}
 use Rattle.planfile.specs.declared.read.Judged.the-variants.{Right, Wrong}
 use Rattle.planfile.specs.Draft.{Draft, own, advanced}
-use Rattle.planfile.specs.DraftLaws.{Verdict}
+use Rattle.planfile.specs.DraftLaws.{Accepted}
 use Rattle.planfile.specs.Due.{dueOf, ownNumber}
 use Rattle.planfile.specs.Reading.{Held, refusal, tooMany, judged}
 use Rattle.planfile.specs.Reader.{asksTooMany, judgement}
@@ -86,6 +86,6 @@ line-right number u (Value w b) v behind e = go (inRange (u .key) (ownNumber u) 
         rw (← same, ← there) (record { line-is = refl; range = p; rows = q })
 
 -- A line that is right is accepted behind the draft.
-pub line-accepted : {d : Draft} {u : Due} {line : Line} {v behind : ℕ} → u ≡ dueOf d → LineRight u line v behind → Verdict d v
+pub line-accepted : {d : Draft} {u : Due} {line : Line} {v behind : ℕ} → u ≡ dueOf d → LineRight u line v behind → Accepted d v
 unfolding dueOf ownNumber asksTooMany tooMany own
 line-accepted e r = record { range = rw e at (r .range); rows = rw e at (r .rows) }
