@@ -10,14 +10,15 @@ use Rattle.table.specs.Plan.{cost, inForce}
 use Rattle.planfile.specs.declared.read.Counts.{Counts}
 use Rattle.planfile.specs.declared.read.Reading.the-variants.{Read}
 use Rattle.planfile.specs.Draft.{noKey}
-use Rattle.planfile.specs.FrontLaws.{draftOf, PartOf}
+use Rattle.planfile.specs.DraftLaws.{draftOf}
+use Rattle.planfile.specs.FrontLaws.{PartOf}
 use Rattle.planfile.specs.NextLineLaws.{front-at}
 use Rattle.planfile.specs.Reading.{Held, held, Lists, ReadOutcome, laidOver, readOf, read}
 use Rattle.planfile.specs.Answered as planfile
 use Rattle.planfile.specs.RoundTrip.{held-shape, held-most}
 use Rattle.planfile.specs.LongerLaws.{laid-part}
 use Rattle.planfile.specs.TrimmedLaws.{Full, full-of}
-use Rattle.planfile.specs.ReadWriteLaws.{read-held}
+use Rattle.planfile.specs.ReadWriteLaws.{Roomy, read-held}
 use Rattle.bounds.specs.declared.Bounded.the-variants.{Verdict}
 use Rattle.bounds.specs.Bounds as bounds
 use Rattle.bounds.specs.Bounds.{Bounding}
@@ -51,7 +52,7 @@ module _ (file list : List ℕ) (size : length list ≡ tableBytes) (T : Table) 
   counts : Counts
   counts = record { processors = T .processors; tasks = T .tasks }
 
-  roomy : planfile.Roomy roomFor
+  roomy : Roomy roomFor
   roomy = record {
     rows = omega (arith, length-replicate {A = ℕ} 128 0);
     tasks = omega (arith, length-replicate {A = ℕ} 32 0);
