@@ -9,7 +9,7 @@ use Rattle.table.specs.Table.{Table, at, rows}
 use Rattle.table.specs.Plan.{cost, inForce}
 use Rattle.planfile.specs.declared.read.Counts.{Counts}
 use Rattle.planfile.specs.declared.read.Reading.the-variants.{Read}
-use Rattle.planfile.specs.Draft.{noKey}
+use Rattle.table.specs.Keys.{noKey}
 use Rattle.planfile.specs.DraftLaws.{draftOf}
 use Rattle.planfile.specs.FrontLaws.{PartOf}
 use Rattle.planfile.specs.NextLineLaws.{front-at}

@@ -5,17 +5,16 @@ use mathlib.Core.List.{List}
 use native.Mathlib.Omega.{arith}
 use borrow.Author.Tests.{le-ltb, eq-eqb}
 use lib.ListN.{length, getD, take, drop, List·getD-append}
-use lib.Seq.{take-length}
 use Rattle.facts.specs.TestsLaws.{clash}
-use Rattle.facts.specs.Filled.{tab, filled, laid}
-use Rattle.facts.specs.FilledLaws.{filled-ext, tab-take}
+use Rattle.facts.specs.Filled.{filled, laid}
+use Rattle.facts.specs.FilledLaws.{filled-ext, laid-filled}
 use Rattle.table.specs.Table.{Table, at, rows, isPlan}
 use Rattle.table.specs.TableLaws.{Checked}
 use Rattle.table.specs.Refusals.{numberOf}
 use Rattle.planfile.specs.declared.read.Counts.{Counts}
 use Rattle.planfile.specs.declared.read.Reading.{Reading}
 use Rattle.planfile.specs.declared.read.Reading.the-variants.{Read, Refused}
-use Rattle.planfile.specs.Draft.{noKey}
+use Rattle.table.specs.Keys.{noKey}
 use Rattle.planfile.specs.DraftLaws.{Shape, draftOf}
 use Rattle.planfile.specs.Reading.{Lists, laidOver, read}
 use Rattle.planfile.specs.Writing.{WriteOutcome, write}
@@ -31,12 +30,6 @@ use Rattle.boundary.specs.FromFile.{listRead, PlanHeld}
 use Rattle.boundary.specs.StateHeld.{zeros}
 use Rattle.boundary.specs.CallsHeld.{refusal-number}
 use Rattle.boundary.specs.TableRead.{taskZeros, length-with-table, table-held}
-
--- A list laid over is a list filled with its entries.
-laid-filled : (new l : List ℕ) (d : ℕ) → laid new l ≡ filled (λ i. getD new i d) (length new) l
-laid-filled new l d =
-    let e : tab (λ i. getD new i d) (length new) ≡ take (length new) new = tab-take new d (length new) (omega arith) in
-    rw (e, take-length new)
 
 -- A list laid over another is filled with its own entries.
 laid-own : (new l : List ℕ) (n : ℕ) → length new ≡ n → filled (at (laid new l)) n l ≡ laid new l

@@ -8,8 +8,7 @@ use lib.IntN.{pos, _-ℤ_}
 use lib.Signed.{leZ}
 use Rattle.facts.specs.SumsLaws.{sum-ext}
 use Rattle.facts.specs.Tests.{all}
-use Rattle.facts.specs.TestsLaws.{clash}
-use Rattle.bounds.specs.General.{all-ext}
+use Rattle.facts.specs.TestsLaws.{clash, all-ext}
 use Rattle.facts.specs.Least.{Least}
 use Rattle.facts.specs.LeastLaws.{unanswered-none}
 use Rattle.facts.specs.FilledLaws.{filled-ext}

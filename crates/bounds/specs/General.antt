@@ -1,7 +1,6 @@
 -- Laws that know no plan.
 use mathlib.Core.Path.{_≡_, refl, ap, sym, _∙_}
-use mathlib.Core.Bool.{Bool, true, false, cond, not, _&&_}
-use Prim.Native.Nat.{ℕ, zero, suc, _+_, _*_, _-_, _/_, _≤_, _<_}
+use Prim.Native.Nat.{ℕ, _+_, _*_, _-_, _≤_, _<_}
 use native.Mathlib.Nat.{mul-le-mul-right, mul-le-mul-left}
 use native.Mathlib.Omega.{arith, both-ways}
 use native.Mathlib.Decide.{decLe}
@@ -9,20 +8,10 @@ use mathlib.Core.List.{List}
 use lib.ListN.{length, getD, set}
 use Rattle.facts.specs.Filled.{filled}
 use Rattle.facts.specs.FilledLaws.{getD-rest, filled-more, filled-keep}
-use Rattle.facts.specs.Tests.{all}
 use Rattle.facts.specs.Rounding.{ceil}
 use Rattle.facts.specs.RoundingLaws.{ceil-le, le-ceil, ceil-tight, ceil-count}
 use Rattle.facts.specs.Least.{Least, Unanswered}
 use Rattle.facts.specs.LeastLaws.{Below}
-
--- The same test at each number below n is the same whole.
-pub all-ext : (n : ℕ) {f g : ℕ → Bool} → ((k : ℕ) → k < n → f k ≡ g k) → all n f ≡ all n g
-unfolding all
-all-ext zero h = refl
-all-ext (suc n) {f} {g} h =
-    let a : all n f ≡ all n g = all-ext n (λ k l. h k (omega arith)) in
-    let b : f n ≡ g n = h n (omega arith) in
-    rw (a, b)
 
 -- What a larger function's search has passed, a smaller one's has.
 pub below-more : {f g : ℕ → ℕ} {t : ℕ} → ((u : ℕ) → f u ≤ g u) → Below f t → Below g t

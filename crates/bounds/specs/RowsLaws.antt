@@ -8,14 +8,14 @@ use lib.Dec.{leb}
 use lib.ListN.{length}
 use borrow.Author.Tests.{le-leb}
 use Rattle.facts.specs.Filled.{filled}
-use Rattle.table.specs.declared.plan.View.{View}
-use Rattle.table.specs.declared.plan.View.the-variants.{Rows, Refused}
+use Rattle.planned.specs.declared.plan.View.{View}
+use Rattle.planned.specs.declared.plan.View.the-variants.{Rows, Refused}
 use Rattle.table.specs.declared.refusal.Refusal.{Refusal}
 use Rattle.table.specs.declared.refusal.Refusal.the-variants.{NotAPlan}
 use Rattle.table.specs.Table.{Table, rows, isPlan}
 use Rattle.table.specs.TableLaws.{Checked, checked}
 use Rattle.table.specs.Plan.{planOf}
-use Rattle.table.specs.View.{Viewed, viewed}
+use Rattle.planned.specs.View.{Viewed, viewed}
 use Rattle.bounds.specs.Rows.{Viewing, plan, none}
 
 -- The answer's rows, and with them the filled periods; or the refusal.

@@ -1,6 +1,5 @@
-// A table by value, written, bounded, reported and read.
+// A table by value, written, bounded and reported.
 
 pub mod bounded;
 pub mod reported;
-pub mod sheet;
 pub mod written;

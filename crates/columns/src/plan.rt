@@ -1,7 +1,7 @@
 // The plan test on a table by value.
 
 use crate::columns::Columns;
-use table::plan;
+use planned::plan;
 ghost use mathlib.Core.Path.{_≡_};
 ghost use Rattle.table.specs.Table.{isPlan};
 ghost use Rattle.columns.specs.Columns.{tableIn};

@@ -6,8 +6,8 @@ use native.Mathlib.Numerals.{add-one}
 use native.Mathlib.Omega.{arith}
 use native.Mathlib.Decide.{decLt}
 use lib.ListN.{length, getD, set, take, drop, length-append, length-drop, List·getD-append}
-use lib.Seq.{drop-cons, set-at, getD-at, getD-append-add, getD-drop, ext-getD, length-take-le, getD-take}
-use Rattle.facts.specs.Filled.{tab, filled, joined}
+use lib.Seq.{drop-cons, set-at, getD-at, getD-append-add, getD-drop, ext-getD, length-take-le, take-length, getD-take}
+use Rattle.facts.specs.Filled.{tab, filled, laid, joined}
 
 module _ {A : Type 0} where
   pub length-tab : (f : ℕ → A) (n : ℕ) → length (tab f n) ≡ n
@@ -72,6 +72,12 @@ module _ {A : Type 0} where
       (length-tab (λ i. getD l i d) n ∙ sym (length-take-le n l h))
       (λ i lt. (let lt′ : i < n = omega (arith, length-tab (λ i. getD l i d) n) in
       getD-tab (λ i. getD l i d) n i d lt′ ∙ sym (getD-take n l i d lt′)))
+
+  -- A list laid over is a list filled with its entries.
+  pub laid-filled : (new l : List A) (d : A) → laid new l ≡ filled (λ i. getD new i d) (length new) l
+  laid-filled new l d =
+      let e : tab (λ i. getD new i d) (length new) ≡ take (length new) new = tab-take new d (length new) (omega arith) in
+      rw (e, take-length new)
 
   pub joined-none : (f : ℕ → List A) → joined 0 f ≡ []
   unfolding joined

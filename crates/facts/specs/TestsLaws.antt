@@ -65,6 +65,15 @@ unfolding all
 all-of zero f h = refl
 all-of (suc n) f h = and-true (all-of n f (λ k l. h k (omega arith))) (h n (omega arith))
 
+-- The same test at each number below n is the same whole.
+pub all-ext : (n : ℕ) {f g : ℕ → Bool} → ((k : ℕ) → k < n → f k ≡ g k) → all n f ≡ all n g
+unfolding all
+all-ext zero h = refl
+all-ext (suc n) {f} {g} h =
+    let a : all n f ≡ all n g = all-ext n (λ k l. h k (omega arith)) in
+    let b : f n ≡ g n = h n (omega arith) in
+    rw (a, b)
+
 -- What a search for the lowest finds: nothing among n, or the first that passes.
 pub data Lowest (n : ℕ) (f : ℕ → Bool) : ℕ → Type 0 where
   nowhere : ((k : ℕ) → k < n → f k ≡ false) → Lowest n f n

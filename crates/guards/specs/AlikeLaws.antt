@@ -5,20 +5,12 @@ use mathlib.Core.Bool.{Bool, true, false, cond, not, _&&_, _||_}
 use native.Mathlib.Omega.{arith}
 use lib.Dec.{leb, ltb, eqb}
 use Rattle.facts.specs.Tests.{all}
+use Rattle.facts.specs.TestsLaws.{all-ext}
 use Rattle.table.specs.Plan.{Plan}
 use Rattle.table.specs.Refusals.{lastClock}
 use Rattle.guards.specs.Moment.{Moment}
 use Rattle.guards.specs.Running.{isOpen}
 use Rattle.guards.specs.Fits.{rowFits, fits}
-
--- Tests that agree below n.
-pub all-ext : (n : ℕ) {f g : ℕ → Bool} → ((k : ℕ) → k < n → f k ≡ g k) → all n f ≡ all n g
-unfolding all
-all-ext zero h = refl
-all-ext (suc n) {f} {g} h =
-    let a : all n f ≡ all n g = all-ext n (λ k l. h k (omega arith)) in
-    let b : f n ≡ g n = h n (omega arith) in
-    rw (a, b)
 
 -- Fitting reads periods, costs and which rows are first.
 module _ (P Q : Plan) (m : Moment) where

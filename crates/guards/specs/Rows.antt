@@ -8,9 +8,9 @@ use lib.ListN.{length, getD}
 use Rattle.facts.specs.Filled.{tab, filled}
 use Rattle.table.specs.Table.{Table, at, rows, isPlan}
 use Rattle.table.specs.Plan.{Plan, planOf}
-use Rattle.table.specs.View.{viewed}
-use Rattle.table.specs.declared.plan.View.{View}
-use Rattle.table.specs.declared.plan.View.the-variants as view
+use Rattle.planned.specs.View.{viewed}
+use Rattle.planned.specs.declared.plan.View.{View}
+use Rattle.planned.specs.declared.plan.View.the-variants as view
 use Rattle.guards.specs.declared.rows.Rows.{Rows}
 
 -- How many rows the view of a table has: none where it is refused.

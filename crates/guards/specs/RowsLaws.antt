@@ -13,8 +13,8 @@ use Rattle.table.specs.Table.{Table, at, rows, isPlan}
 use Rattle.table.specs.TableLaws.{Checked, checked}
 use Rattle.table.specs.Plan.{planOf, cost}
 use Rattle.table.specs.PlanLaws.{small-of}
-use Rattle.table.specs.View.{Viewed, viewed}
-use Rattle.table.specs.declared.plan.View.{View}
+use Rattle.planned.specs.View.{Viewed, viewed}
+use Rattle.planned.specs.declared.plan.View.{View}
 use Rattle.guards.specs.declared.rows.Rows.{Rows}
 use Rattle.guards.specs.declared.state.State.{State}
 use Rattle.guards.specs.Moment.{momentOf}

@@ -15,7 +15,7 @@ use Rattle.table.specs.Table.{Table, firstRow, rows, isPlan}
 use Rattle.table.specs.TableLaws.{Checked, checked}
 use Rattle.table.specs.Plan.{Plan, planOf}
 use Rattle.table.specs.PlanLaws.{first-row-suc, first-row-mono}
-use Rattle.table.specs.ViewLaws.{Inside, inside-first}
+use Rattle.planned.specs.ViewLaws.{Inside, inside-first}
 use Rattle.table.specs.Refusals.{lastClock}
 use Rattle.table.specs.declared.refusal.Refusal.{Refusal}
 use Rattle.guards.specs.declared.state.State.{State}

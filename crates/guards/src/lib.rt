@@ -1,8 +1,5 @@
-// The guards (document 01, "Guards"): the run state, by value or in lent lists, when it fits a plan, and the calls fresh start
-// and arrive.
+// The guards (document 01, "Guards"): the run state, by value or in lent lists, what a call answers, and a plan's rows as the
+// calls read them. The definitions of every call are here too.
 
-pub mod arrive;
-pub mod fits;
-pub mod fresh;
 pub mod rows;
 pub mod state;

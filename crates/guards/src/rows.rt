@@ -1,7 +1,7 @@
 // A plan's rows as the calls read them.
 
-use table::plan::View;
-use table::plan::view_rows;
+use planned::plan::View;
+use planned::plan::view_rows;
 ghost use mathlib.Core.Path.{_≡_};
 ghost use Rattle.table.specs.Table.{tableOf};
 ghost use Rattle.guards.specs.Rows.{countOf, rowsIn, rowsOf};

@@ -1,10 +1,10 @@
 // One state is kept, and each call updates it: thin calls over a lent state, above the calls by value.
 
-use columns::arrive as arrival;
+use calls::arrive as arrival;
+use calls::fresh;
+use calls::outcome;
+use calls::tick as ticking;
 use columns::columns::Columns;
-use columns::fresh;
-use columns::outcome;
-use columns::tick as ticking;
 use guards::state::Answer;
 use guards::state::State;
 ghost use mathlib.Core.Path.{_≡_};

@@ -22,9 +22,9 @@ use Rattle.table.specs.Plan.{taskOf, cost, planOf, inForce}
 use Rattle.table.specs.PlanLaws.{right-of}
 use Rattle.table.specs.declared.refusal.Refusal.the-variants.{NoBusyLength, TooSoon, TimeUsedUp}
 use Rattle.text.specs.Text.{digits, decimal, line}
-use Rattle.planfile.specs.Words.{words, word}
+use Rattle.lines.specs.Words.{words, word}
 use Rattle.planfile.specs.Draft.{blank, rowsAsked, own, added, placed, following, advanced}
-use Rattle.planfile.specs.Line.{isDigit, stands, digitsFrom, valueFrom, lineAt}
+use Rattle.lines.specs.Line.{isDigit, stands, digitsFrom, valueFrom, lineAt}
 use Rattle.planfile.specs.Reading.{table, tooMany, judged, heldFrom, held, mostBytes}
 use Rattle.equations.specs.Row.{Row, work, workTo, RowBounds}
 use Rattle.equations.specs.RowLaws.{Proper, work-rising, work-to-rising}

@@ -11,12 +11,8 @@ use Rattle.facts.specs.OutcomesLaws.{equation-one}
 use Rattle.table.specs.Table.{Table, longEnough, isPlan}
 use Rattle.table.specs.declared.refusal.Refusal.{Refusal}
 use Rattle.table.specs.declared.refusal.Refusal.the-variants.{FileTooLong, NotAPlan, TooShort}
-use Rattle.text.specs.Text.{Written, appended}
-use Rattle.planfile.specs.declared.line.Line.{Line}
 use Rattle.planfile.specs.declared.read.Reading.the-variants as reading
 use Rattle.planfile.specs.declared.write.Writing.the-variants as writing
-use Rattle.planfile.specs.Words.{word}
-use Rattle.planfile.specs.Line.{lineAt}
 use Rattle.planfile.specs.File.{fileOf}
 use Rattle.planfile.specs.Reading.{Held, table, refusal, Lists, ReadOutcome, mostBytes, held, readOf, read}
 use Rattle.planfile.specs.Writing.{WriteOutcome, write}
@@ -27,13 +23,6 @@ read-one file l a b = equation-one
 
 pub write-one : (T : Table) (out : List ℕ) (a b : WriteOutcome) → a ≡ write T out → b ≡ write T out → a ≡ b
 write-one T out a b = equation-one
-
-pub line-one : (file : List ℕ) (place key : ℕ) (a b : Line) → a ≡ lineAt file place key → b ≡ lineAt file place key → a ≡ b
-line-one file place key a b = equation-one
-
-pub word-one :
-    (key : ℕ) (out : List ℕ) (at : ℕ) (a b : Written) → a ≡ appended (word key) out at → b ≡ appended (word key) out at → a ≡ b
-word-one key out at a b = equation-one
 
 -- A refusal of reading leaves every list.
 abbrev Leaves : Lists → ReadOutcome → Type 0

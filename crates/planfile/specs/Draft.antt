@@ -6,17 +6,13 @@ use mathlib.Core.List.{List, [], _∷_, _++_}
 use lib.Dec.{ltb, eqb}
 use lib.ListN.{length}
 use Rattle.facts.specs.Sums.{sum}
-use Rattle.table.specs.Keys.{planKey, processorsKey, tasksKey, taskKey, periodKey, deadlineKey, stepsKey, processorKey, priorityKey, timeKey}
+use Rattle.table.specs.Keys.{planKey, processorsKey, tasksKey, taskKey, periodKey, deadlineKey, stepsKey, processorKey, priorityKey, timeKey, noKey}
 use Rattle.table.specs.Table.{Table, tableOf, at}
 
 -- The key due and the table so far.
 pub record Draft : Type 0 where
   pub key : ℕ
   pub table : Table
-
--- The number that is no key's: all lines are there.
-abbrev pub noKey : ℕ
-noKey = 10
 
 -- Before the first line.
 unfoldable pub blank : Draft

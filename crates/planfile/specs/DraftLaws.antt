@@ -11,13 +11,13 @@ use lib.ListN.{length, getD, length-append, List·getD-append}
 use lib.Seq.{getD-at}
 use Rattle.facts.specs.Sums.{sum}
 use Rattle.facts.specs.SumsLaws.{sum-more, sum-ext}
-use Rattle.table.specs.Keys.{processorsKey, tasksKey, taskKey, stepsKey, processorKey, timeKey}
+use Rattle.table.specs.Keys.{processorsKey, tasksKey, taskKey, stepsKey, processorKey, timeKey, noKey}
 use Rattle.table.specs.Ranges.{inRange, rangeOf, ranges}
 use Rattle.table.specs.RangesLaws.{within-of}
 use Rattle.table.specs.Table.{Table, at, mostRows}
-use Rattle.planfile.specs.Draft.{Draft, noKey, blank, rowsAsked, own, added, placed, following, advanced}
+use Rattle.planfile.specs.Draft.{Draft, blank, rowsAsked, own, added, placed, following, advanced}
 use Rattle.planfile.specs.Reading.{tooMany}
-use Rattle.planfile.specs.KeyLaws.{EachKey, by-key, none-in-range}
+use Rattle.lines.specs.KeyLaws.{EachKey, by-key, none-in-range}
 
 -- The draft of a key and a table.
 abbrev pub draftOf : ℕ → Table → Draft

@@ -3,9 +3,9 @@ use Prim.Native.Nat.{ℕ, _+_}
 use mathlib.Core.Bool.{cond}
 use lib.Dec.{ltb, eqb}
 use lib.ListN.{length}
-use Rattle.table.specs.Keys.{planKey, processorsKey, tasksKey, taskKey, stepsKey, processorKey, timeKey}
+use Rattle.table.specs.Keys.{planKey, processorsKey, tasksKey, taskKey, stepsKey, processorKey, timeKey, noKey}
 use Rattle.planfile.specs.declared.due.Due.{Due}
-use Rattle.planfile.specs.Draft.{Draft, noKey, rowsAsked}
+use Rattle.planfile.specs.Draft.{Draft, rowsAsked}
 
 -- What is due behind a draft.
 unfoldable pub dueOf : Draft → Due

@@ -3,7 +3,7 @@ use Prim.Native.Nat.{ℕ, zero, suc, _+_, _*_}
 use mathlib.Core.List.{List, [], _∷_, _++_}
 use lib.ListN.{length, getD}
 use Rattle.table.specs.Table.{Table, at, rows}
-use Rattle.planfile.specs.Words.{lineOf}
+use Rattle.lines.specs.Words.{lineOf}
 use Rattle.planfile.specs.Draft.{Draft, blank, advanced}
 
 -- The value that the table has for the key due: `plan` is 1, `processors` and `tasks` are its counts, `task` is the next

@@ -6,17 +6,18 @@ use mathlib.Core.List.{List, [], _++_}
 use native.Mathlib.Nat.{add-zero, zero-add}
 use native.Mathlib.Omega.{arith, by-contra, both-ways}
 use lib.ListN.{length, drop, length-drop}
+use Rattle.table.specs.Keys.{noKey}
 use Rattle.table.specs.Table.{Table, firstRow, rows, isPlan}
-use Rattle.planfile.specs.Words.{lineOf}
-use Rattle.planfile.specs.Draft.{Draft, noKey, own, advanced}
+use Rattle.lines.specs.Words.{lineOf}
+use Rattle.planfile.specs.Draft.{Draft, own, advanced}
 use Rattle.planfile.specs.DraftLaws.{Shape, own-most, linesSoFar, draftOf, where-due, due-there}
-use Rattle.planfile.specs.KeyLaws.{EachKey, by-key}
+use Rattle.lines.specs.KeyLaws.{EachKey, by-key}
 use Rattle.planfile.specs.File.{valueFor, linesFrom, linesOf, fileOf}
 use Rattle.planfile.specs.Reading.{mostBytes}
 use Rattle.planfile.specs.Verdicts.{RightLine, RightLines}
 use Rattle.planfile.specs.Verdicts.RightLines.{none, more}
 use Rattle.planfile.specs.VerdictsLaws.{lines-within}
-use Rattle.planfile.specs.LineTextLaws.{written-stands, written-rest}
+use Rattle.lines.specs.LineTextLaws.{written-stands, written-rest}
 use Rattle.planfile.specs.LinesLaws.{lines-shape, lines-count}
 use Rattle.planfile.specs.SizeLaws.{value-takes, lines-bytes, whole-bytes}
 use Rattle.planfile.specs.PlanValues.{ValuesRight, values-right}

@@ -16,7 +16,7 @@ use Rattle.table.specs.RangesLaws.{within-of}
 use Rattle.table.specs.Table.{Table, at}
 use Rattle.planfile.specs.Draft.{Draft, blank, own, added, placed, following, advanced}
 use Rattle.planfile.specs.DraftLaws.{draftOf, after-row}
-use Rattle.planfile.specs.KeyLaws.{EachKey, by-key, none-in-range}
+use Rattle.lines.specs.KeyLaws.{EachKey, by-key, none-in-range}
 use Rattle.planfile.specs.File.{valueFor}
 
 -- The list l is the front of the list m.

@@ -1,12 +1,8 @@
-pub mod Words
 pub mod Draft
 pub mod File
-pub mod Line
 pub mod Reading
 pub mod Writing
 pub mod Verdicts
-pub mod ValueLaws
-pub mod LineTextLaws
 pub mod VerdictsLaws
 pub mod PlanValues
 pub mod FrontLaws
@@ -21,9 +17,7 @@ pub mod RoundTrip
 pub mod LongerLaws
 pub mod Answered
 pub mod ReadWriteLaws
-pub mod KeyLaws
 pub mod DraftLaws
-pub mod LineLaws
 pub mod Due
 pub mod DueLaws
 pub mod Reader

@@ -7,13 +7,14 @@ use native.Mathlib.Omega.{arith}
 use lib.ListN.{length, take, drop}
 use lib.Seq.{take-add, take-append-seam}
 use Rattle.table.specs.Table.{Table}
-use Rattle.planfile.specs.Words.{lineOf}
+use Rattle.lines.specs.Words.{lineOf}
 use Rattle.planfile.specs.Draft.{Draft, blank, advanced}
 use Rattle.planfile.specs.DraftLaws.{Shape, shape-blank, shape-next, linesSoFar, lines-next}
 use Rattle.planfile.specs.DraftValues.{ValuesSoFar, values-blank, values-next}
 use Rattle.planfile.specs.File.{linesFrom}
 use Rattle.planfile.specs.FrontLaws.{PartOf, part-before, part-value}
-use Rattle.planfile.specs.Verdicts.{LineStands, RightLines}
+use Rattle.lines.specs.LineStands.{LineStands}
+use Rattle.planfile.specs.Verdicts.{RightLines}
 use Rattle.planfile.specs.Verdicts.RightLines.{none, more}
 
 module _ (file : List ℕ) where

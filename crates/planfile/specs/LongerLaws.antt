@@ -6,10 +6,9 @@ use mathlib.Core.List.{List}
 use native.Mathlib.Omega.{arith}
 use lib.ListN.{length, length-take}
 use lib.Seq.{take-append-seam}
-use Rattle.table.specs.Keys.{processorsKey, tasksKey, processorKey}
+use Rattle.table.specs.Keys.{processorsKey, tasksKey, processorKey, noKey}
 use Rattle.table.specs.Ranges.{inRange}
 use Rattle.table.specs.Table.{Table, rows, isPlan}
-use Rattle.planfile.specs.Draft.{noKey}
 use Rattle.planfile.specs.DraftLaws.{Shape, draftOf}
 use Rattle.planfile.specs.File.{fileOf}
 use Rattle.planfile.specs.Reading.{Lists, laidOver}

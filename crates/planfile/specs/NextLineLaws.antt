@@ -9,14 +9,14 @@ use lib.Dec.{eqb, ltb}
 use lib.ListN.{length}
 use lib.Seq.{getD-take}
 use Rattle.facts.specs.SumsLaws.{sum-ext}
-use Rattle.table.specs.Keys.{processorsKey, tasksKey, taskKey, periodKey, deadlineKey, stepsKey, processorKey, priorityKey, timeKey}
+use Rattle.table.specs.Keys.{processorsKey, tasksKey, taskKey, periodKey, deadlineKey, stepsKey, processorKey, priorityKey, timeKey, noKey}
 use Rattle.table.specs.Ranges.{inRange, rangeOf, ranges}
 use Rattle.table.specs.RangesLaws.{in-range-of}
 use Rattle.table.specs.Table.{Table, at, firstRow, rows, mostRows}
 use Rattle.table.specs.PlanLaws.{first-row-suc, first-row-mono}
-use Rattle.planfile.specs.Draft.{Draft, noKey, rowsAsked, own, added, placed, advanced}
+use Rattle.planfile.specs.Draft.{Draft, rowsAsked, own, added, placed, advanced}
 use Rattle.planfile.specs.DraftLaws.{Shape, byKey, draftOf, where-due}
-use Rattle.planfile.specs.KeyLaws.{EachKey, by-key}
+use Rattle.lines.specs.KeyLaws.{EachKey, by-key}
 use Rattle.planfile.specs.File.{valueFor}
 use Rattle.planfile.specs.Reading.{tooMany}
 use Rattle.planfile.specs.PlanValues.{ValuesRight}

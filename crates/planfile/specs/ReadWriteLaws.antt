@@ -10,6 +10,7 @@ use lib.Dec.{ltb}
 use lib.ListN.{length, take, drop}
 use lib.Seq.{take-append-seam}
 use Rattle.facts.specs.Filled.{laid}
+use Rattle.table.specs.Keys.{noKey}
 use Rattle.table.specs.Table.{Table, at, rows, isPlan, longEnough}
 use Rattle.table.specs.TableLaws.{Long, long-of, long-true}
 use Rattle.table.specs.declared.refusal.Refusal.{Refusal}
@@ -24,7 +25,6 @@ use Rattle.planfile.specs.Writing.{WriteOutcome, write}
 use Rattle.planfile.specs.Verdicts.{Verdict}
 use Rattle.planfile.specs.VerdictsLaws.{verdict, verdict-held}
 use Rattle.planfile.specs.FileLaws.{file-most}
-use Rattle.planfile.specs.Draft.{noKey}
 use Rattle.planfile.specs.DraftLaws.{Shape, draftOf}
 use Rattle.planfile.specs.FrontLaws.{PartOf}
 use Rattle.planfile.specs.RoundTrip.{reads-back, read-is, held-shape}

@@ -9,8 +9,8 @@ use Rattle.table.specs.Ranges.{inRange}
 use Rattle.table.specs.Table.{tableOf, mostRows}
 use Rattle.table.specs.declared.refusal.Refusal.the-variants.{NotTheLineDue, OutOfRange, TooManyRows}
 use Rattle.planfile.specs.declared.due.Due.{Due}
-use Rattle.planfile.specs.declared.line.Line.{Line}
-use Rattle.planfile.specs.declared.line.Line.the-variants.{Value, Fault}
+use Rattle.lines.specs.declared.line.Line.{Line}
+use Rattle.lines.specs.declared.line.Line.the-variants.{Value, Fault}
 use Rattle.planfile.specs.declared.read.Judged.{Judged}
 use Rattle.planfile.specs.declared.read.Judged.the-variants.{Right, Wrong}
 use Rattle.planfile.specs.declared.read.Found.{Found}

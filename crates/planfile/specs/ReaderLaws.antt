@@ -7,6 +7,7 @@ use native.Mathlib.Numerals.{add-one}
 use borrow.Author.Tests.{eq-eqb, ne-eqb}
 use lib.ListN.{length, take}
 use Rattle.facts.specs.Filled.{laid}
+use Rattle.table.specs.Keys.{noKey}
 use Rattle.table.specs.Table.{Table}
 use Rattle.table.specs.declared.refusal.Refusal.{Refusal}
 use Rattle.table.specs.declared.refusal.Refusal.the-variants.{NotTheLineDue}
@@ -17,14 +18,14 @@ use Rattle.planfile.specs.declared.read.Counts.{Counts}
 use Rattle.planfile.specs.declared.read.Found.{Found}
 use Rattle.planfile.specs.declared.read.Found.the-variants as found
 use Rattle.planfile.specs.declared.read.Reading.the-variants.{Read, Refused}
-use Rattle.planfile.specs.Draft.{Draft, noKey, blank, advanced}
+use Rattle.planfile.specs.Draft.{Draft, blank, advanced}
 use Rattle.planfile.specs.DraftLaws.{Shape, due-there, shape-blank, shape-next}
 use Rattle.planfile.specs.Due.{dueOf, begun, past}
 use Rattle.planfile.specs.DueLaws.{Few, due-blank, due-advanced, due-few, value-few}
 use Rattle.planfile.specs.JudgeLaws.{carried, judged-carried, line-right, line-accepted}
 use Rattle.planfile.specs.StoreLaws.{Sized, sized-next, Slots, slots, Kept, kept-of, kept-table}
-use Rattle.planfile.specs.Line.{lineAt}
-use Rattle.planfile.specs.LineLaws.{line-behind}
+use Rattle.lines.specs.Line.{lineAt}
+use Rattle.lines.specs.LineLaws.{line-behind}
 use Rattle.planfile.specs.Reading.{table, refusal, Lists, listsOf, ReadOutcome, judged, heldFrom, held, laidOver, readOf}
 use Rattle.planfile.specs.Reader.{judgement, stored, foundIn}
 

@@ -5,17 +5,17 @@ use mathlib.Core.List.{List}
 use lib.Dec.{ltb, eqb}
 use lib.ListN.{length}
 use Rattle.facts.specs.Filled.{laid}
-use Rattle.table.specs.Keys.{stepsKey}
+use Rattle.table.specs.Keys.{stepsKey, noKey}
 use Rattle.table.specs.Ranges.{inRange}
 use Rattle.table.specs.Table.{Table, mostRows, longEnough}
 use Rattle.table.specs.declared.refusal.Refusal.{Refusal}
 use Rattle.table.specs.declared.refusal.Refusal.the-variants.{FileTooLong, NotTheLineDue, OutOfRange, TooManyRows, TooShort}
-use Rattle.planfile.specs.declared.line.Line.{Line}
-use Rattle.planfile.specs.declared.line.Line.the-variants.{Value, Fault}
+use Rattle.lines.specs.declared.line.Line.{Line}
+use Rattle.lines.specs.declared.line.Line.the-variants.{Value, Fault}
 use Rattle.planfile.specs.declared.read.Reading.{Reading}
 use Rattle.planfile.specs.declared.read.Reading.the-variants.{Read, Refused}
-use Rattle.planfile.specs.Draft.{Draft, noKey, blank, rowsAsked, own, advanced}
-use Rattle.planfile.specs.Line.{lineAt}
+use Rattle.planfile.specs.Draft.{Draft, blank, rowsAsked, own, advanced}
+use Rattle.lines.specs.Line.{lineAt}
 
 -- What a file holds: a table, or a refusal.
 pub data Held : Type 0 where

@@ -8,8 +8,9 @@ use native.Mathlib.Nat.{add-zero}
 use native.Mathlib.Omega.{arith}
 use lib.ListN.{length, take}
 use lib.Seq.{take-length}
+use Rattle.table.specs.Keys.{noKey}
 use Rattle.table.specs.Table.{Table, firstRow, rows, isPlan}
-use Rattle.planfile.specs.Draft.{Draft, noKey, blank}
+use Rattle.planfile.specs.Draft.{Draft, blank}
 use Rattle.planfile.specs.DraftLaws.{Shape, draftOf, due-there}
 use Rattle.planfile.specs.File.{linesFrom, linesOf, fileOf}
 use Rattle.planfile.specs.Reading.{table, held, mostBytes}

@@ -5,16 +5,16 @@ use mathlib.Core.Bool.{true}
 use mathlib.Core.List.{List, [], _∷_}
 use native.Mathlib.Omega.{arith}
 use lib.ListN.{length, getD, length-append}
-use Rattle.table.specs.Keys.{planKey, processorsKey, tasksKey, taskKey, periodKey, deadlineKey, stepsKey, processorKey, priorityKey, timeKey}
+use Rattle.table.specs.Keys.{planKey, processorsKey, tasksKey, taskKey, periodKey, deadlineKey, stepsKey, processorKey, priorityKey, timeKey, noKey}
 use Rattle.table.specs.Ranges.{inRange, rangeOf, ranges}
 use Rattle.table.specs.RangesLaws.{within-of}
 use Rattle.table.specs.Table.{Table}
 use Rattle.text.specs.NumeralLaws.{decimal-few}
-use Rattle.planfile.specs.Words.{words, word, lineOf}
-use Rattle.planfile.specs.Draft.{Draft, noKey, own, added, placed, following, advanced}
+use Rattle.lines.specs.Words.{words, word, lineOf}
+use Rattle.planfile.specs.Draft.{Draft, own, added, placed, following, advanced}
 use Rattle.planfile.specs.DraftLaws.{Shape, byKey, own-most, draftOf, after-row}
-use Rattle.planfile.specs.KeyLaws.{EachKey, by-key, none-in-range}
-use Rattle.planfile.specs.LineTextLaws.{length-lineOf}
+use Rattle.lines.specs.KeyLaws.{EachKey, by-key, none-in-range}
+use Rattle.lines.specs.LineTextLaws.{length-lineOf}
 use Rattle.planfile.specs.LinesLaws.{lines-shape}
 use Rattle.planfile.specs.Verdicts.{RightLines}
 use Rattle.planfile.specs.Verdicts.RightLines.{none, more}

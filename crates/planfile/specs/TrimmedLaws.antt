@@ -5,8 +5,9 @@ use native.Mathlib.Omega.{arith}
 use lib.ListN.{length}
 use lib.Seq.{take-all}
 use Rattle.facts.specs.Sums.{sum}
+use Rattle.table.specs.Keys.{noKey}
 use Rattle.table.specs.Table.{Table, at, firstRow, rows}
-use Rattle.planfile.specs.Draft.{noKey, rowsAsked}
+use Rattle.planfile.specs.Draft.{rowsAsked}
 use Rattle.planfile.specs.DraftLaws.{Shape, draftOf}
 use Rattle.planfile.specs.DraftValues.{ValuesSoFar}
 use Rattle.planfile.specs.PlanValues.{ValuesRight}

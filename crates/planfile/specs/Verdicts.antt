@@ -1,21 +1,15 @@
 -- What a file is judged by: which of its lines are right, and the first that is not (document 01, "Numbers that say no").
-use Prim.Native.Nat.{ℕ, suc, _+_, _^_, _<_}
+use Prim.Native.Nat.{ℕ, suc}
 use mathlib.Core.Path.{_≡_}
 use mathlib.Core.Bool.{true, false}
-use mathlib.Core.List.{List, _++_}
-use lib.ListN.{length, drop}
+use mathlib.Core.List.{List}
+use lib.ListN.{length}
+use Rattle.table.specs.Keys.{noKey}
 use Rattle.table.specs.Ranges.{inRange}
 use Rattle.table.specs.declared.refusal.Refusal.the-variants.{NotTheLineDue, OutOfRange, TooManyRows}
-use Rattle.planfile.specs.Words.{lineOf}
-use Rattle.planfile.specs.Draft.{Draft, noKey, blank, own, advanced}
+use Rattle.lines.specs.LineStands.{LineStands}
+use Rattle.planfile.specs.Draft.{Draft, blank, own, advanced}
 use Rattle.planfile.specs.Reading.{Held, table, refusal, tooMany}
-
--- The line of the key and the value stands in the file from the place on and ends where another would start. A value is
--- written with no sign, blank or leading zero, and takes at most 9 digits.
-pub record LineStands (file : List ℕ) (place key value behind : ℕ) : Type 0 where
-  pub small : value < 10 ^ 9
-  pub bytes : drop place file ≡ lineOf key value ++ drop behind file
-  pub ends : place + length (lineOf key value) ≡ behind
 
 -- The line at the place is right: a line is due, it is of the form and key due, its value is in its range, and it does not
 -- bring the rows above 128.

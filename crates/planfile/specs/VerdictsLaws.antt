@@ -9,15 +9,17 @@ use native.Mathlib.Omega.{arith}
 use borrow.Author.Tests.{eq-eqb, ne-eqb, eqb-true, eqb-false}
 use lib.Dec.{eqb}
 use lib.ListN.{length}
+use Rattle.table.specs.Keys.{noKey}
 use Rattle.table.specs.Ranges.{inRange}
 use Rattle.table.specs.declared.refusal.Refusal.the-variants.{NotTheLineDue, OutOfRange, TooManyRows}
-use Rattle.planfile.specs.declared.line.Line.{Line}
-use Rattle.planfile.specs.declared.line.Line.the-variants.{Value, Fault}
-use Rattle.planfile.specs.Draft.{Draft, noKey, blank, own, advanced}
-use Rattle.planfile.specs.Line.{lineAt}
+use Rattle.lines.specs.declared.line.Line.{Line}
+use Rattle.lines.specs.declared.line.Line.the-variants.{Value, Fault}
+use Rattle.planfile.specs.Draft.{Draft, blank, own, advanced}
+use Rattle.lines.specs.Line.{lineAt}
 use Rattle.planfile.specs.Reading.{Held, table, refusal, tooMany, judged, heldFrom, held}
-use Rattle.planfile.specs.LineTextLaws.{line-read, line-found, stands-within, fault-of, fault-none}
-use Rattle.planfile.specs.Verdicts.{LineStands, RightLine, RightLines, Verdict}
+use Rattle.lines.specs.LineTextLaws.{line-read, line-found, stands-within, fault-of, fault-none}
+use Rattle.lines.specs.LineStands.{LineStands}
+use Rattle.planfile.specs.Verdicts.{RightLine, RightLines, Verdict}
 use Rattle.planfile.specs.Verdicts.RightLines.{none, more}
 use Rattle.planfile.specs.Verdicts.Verdict.{all-right, not-due, bytes-follow, out-of-range, too-many-rows}
 

@@ -7,17 +7,17 @@ use native.Mathlib.Omega.{arith}
 use borrow.Author.Tests.{lt-ltb, le-ltb}
 use lib.ListN.{length, getD, take, length-append, take-append-drop, List·getD-eq-default}
 use Rattle.facts.specs.Filled.{laid}
-use Rattle.table.specs.Keys.{tasksKey}
+use Rattle.table.specs.Keys.{tasksKey, noKey}
 use Rattle.table.specs.Table.{Table, at, isPlan}
 use Rattle.text.specs.Text.{Written, appended}
 use Rattle.text.specs.TextLaws.{Holds, holds-none, holds-more, Placed, placed}
 use Rattle.planfile.specs.declared.due.Due.{Due}
 use Rattle.table.specs.declared.refusal.Refusal.the-variants.{NotAPlan, TooShort}
 use Rattle.planfile.specs.declared.write.Writing.the-variants.{Bytes, Refused}
-use Rattle.planfile.specs.Words.{lineOf}
-use Rattle.planfile.specs.Draft.{Draft, noKey, blank, own, advanced}
+use Rattle.lines.specs.Words.{lineOf}
+use Rattle.planfile.specs.Draft.{Draft, blank, own, advanced}
 use Rattle.planfile.specs.DraftLaws.{Shape, own-most, shape-blank, shape-next, linesSoFar, lines-next, draftOf, due-there}
-use Rattle.planfile.specs.KeyLaws.{EachKey, by-key, value-most}
+use Rattle.lines.specs.KeyLaws.{EachKey, by-key, value-most}
 use Rattle.planfile.specs.Due.{dueOf, begun, past}
 use Rattle.planfile.specs.DueLaws.{Few, due-blank, due-advanced, due-few}
 use Rattle.planfile.specs.File.{valueFor, linesFrom, linesOf, fileOf}

@@ -11,7 +11,7 @@ use Rattle.table.specs.Table.{Table, at, firstRow, rows, isPlan}
 use Rattle.table.specs.TableLaws.{Checked, checked}
 use Rattle.table.specs.Plan.{planOf}
 use Rattle.table.specs.PlanLaws.{right-of, first-row-suc, first-row-mono}
-use Rattle.table.specs.ViewLaws.{inside-first}
+use Rattle.planned.specs.ViewLaws.{inside-first}
 use Rattle.guards.specs.declared.state.State.{State}
 use Rattle.guards.specs.declared.state.Outcome.{Outcome}
 use Rattle.guards.specs.Moment.{Moment, momentOf, stateWith}

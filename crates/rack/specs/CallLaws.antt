@@ -24,6 +24,18 @@ pub both-kept : {o p : StateOutcome} {r s : List ℕ} → o ≡ p → r ≡ s
     → _≡_ {A = RackTickOutcome} (record { outcome = o; released = r }) (record { outcome = p; released = s })
 both-kept e f = rw (e, f)
 
+-- The call on a table and the state that the list holds for n rows.
+unfoldable pub calledOn : Call → Table → ℕ → List ℕ → List ℕ → List ℕ → RackTickOutcome
+calledOn call T n state done released =
+    let t = called call T (stateIn n state) done released in
+    record { outcome = keptIn n state (t .outcome); released = t .released }
+
+pub called-on : (call : Call) (T : Table) (n : ℕ) (state done released : List ℕ) {σ : State} {t : TickOutcome} {o : StateOutcome}
+    → σ ≡ stateIn n state → t ≡ called call T σ done released → o ≡ keptIn n state (t .outcome)
+    → _≡_ {A = RackTickOutcome} (record { outcome = o; released = t .released }) (calledOn call T n state done released)
+unfolding calledOn
+called-on call T n state done released eσ et eo = rw (eo, et, eσ)
+
 module _ (done released : List ℕ) where
   -- A call on a table that is no plan is refused and leaves the release list.
   no-plan : (call : Call) (T : Table) (σ : State) → isPlan T ≡ false → called call T σ done released .outcome .answer ≡ Refused NotAPlan
@@ -47,16 +59,14 @@ module _ (done released : List ℕ) where
     call-untried e f = both-kept f (released-stays table state (calledIn call table state done released .released) e)
 
     -- and one that is, on the table and state that the lists hold.
-    pub call-made : {n : ℕ} {T : Table} {σ : State} {t : TickOutcome} {o : StateOutcome}
+    pub call-made : {n : ℕ} {T : Table} {x : RackTickOutcome}
         → length table ≡ tableBytes → length state ≡ stateBytes
-        → n ≡ rowsIn table → T ≡ tableIn table → σ ≡ stateIn n state → t ≡ called call T σ done released → o ≡ keptIn n state (t .outcome)
-        → _≡_ {A = RackTickOutcome} (record { outcome = o; released = t .released }) (rackCall call table state done released)
-    unfolding rackCall calledIn
-    call-made a b en eT eσ et eo =
-        both-kept
-        (call-kept table state (λ T σ. called call T σ done released .outcome) a b (no-plan call) en eT eσ (ap (λ (x : TickOutcome). x .outcome) et) eo)
-        (released-kept table state a b (no-plan-released call (tableIn table) (stateIn (rowsIn table) state))
-        (ap (λ (x : TickOutcome). x .released) et ∙ rw (eσ, eT, en)))
+        → n ≡ rowsIn table → T ≡ tableIn table → x ≡ calledOn call T n state done released → x ≡ rackCall call table state done released
+    unfolding rackCall calledIn calledOn
+    call-made a b en eT e =
+        e ∙ both-kept
+        (call-kept table state (λ T σ. called call T σ done released .outcome) a b (no-plan call) en eT refl refl refl)
+        (released-kept table state a b (no-plan-released call (tableIn table) (stateIn (rowsIn table) state)) (rw (eT, en)))
 
 -- Fresh start and arrive read no done list and no release list.
 pub fresh-alone : (table state done released : List ℕ) {o : RackTickOutcome} → o ≡ rackCall Fresh table state done released → o .outcome ≡ rackFresh table state

@@ -29,21 +29,53 @@ pub rows-held : (l : List ℕ) {T : Table} → T ≡ tableIn l → rowsHeld T �
 unfolding rowsIn tasksIn tableIn
 rows-held l e = rw e
 
--- A table's counts and lists read one field after another.
-pub table-read : (l : List ℕ) {processors tasks chains rows : ℕ} {period deadline steps processor priority time : List ℕ}
-    → processors ≡ word l 0
+-- The table after has the fields of the list over the lists of the table before; n of its rows have room.
+pub record TableRead (l : List ℕ) (before : Table) (n : ℕ) (after : Table) : Type 0 where
+  pub period : after .period ≡ gathered l 2 3 (tasksIn l) (before .period)
+  pub deadline : after .deadline ≡ gathered l 3 3 (tasksIn l) (before .deadline)
+  pub steps : after .steps ≡ gathered l 4 3 (tasksIn l) (before .steps)
+  pub rows : n ≡ min (sum (tasksIn l) (at (after .steps))) 128
+  pub processor : after .processor ≡ gathered l 98 3 n (before .processor)
+  pub priority : after .priority ≡ gathered l 99 3 n (before .priority)
+  pub time : after .time ≡ gathered l 100 3 n (before .time)
+
+-- A table's lists read one field after another.
+pub table-read : (l : List ℕ) (before : Table) (tasks chains n : ℕ) {period deadline steps processor priority time : List ℕ}
     → tasks ≡ word l 1
     → chains ≡ min tasks 32
-    → period ≡ gathered l 2 3 chains (replicate 32 0)
-    → deadline ≡ gathered l 3 3 chains (replicate 32 0)
-    → steps ≡ gathered l 4 3 chains (replicate 32 0)
-    → rows ≡ min (sum chains (at steps)) 128
-    → processor ≡ gathered l 98 3 rows (replicate 128 0)
-    → priority ≡ gathered l 99 3 rows (replicate 128 0)
-    → time ≡ gathered l 100 3 rows (replicate 128 0)
-    → tableOf processors tasks period deadline steps processor priority time ≡ tableIn l
-unfolding rowsIn tasksIn tableIn taskField rowField
-table-read l a b c d e f g h i j = rw (j, i, h, g, f, e, d, c, b, a)
+    → period ≡ gathered l 2 3 chains (before .period)
+    → deadline ≡ gathered l 3 3 chains (before .deadline)
+    → steps ≡ gathered l 4 3 chains (before .steps)
+    → n ≡ min (sum chains (at steps)) 128
+    → processor ≡ gathered l 98 3 n (before .processor)
+    → priority ≡ gathered l 99 3 n (before .priority)
+    → time ≡ gathered l 100 3 n (before .time)
+    → TableRead l before n (tableOf 0 0 period deadline steps processor priority time)
+unfolding tasksIn
+table-read l before tasks chains n t c d e f g h i j = record {
+  period = rw (d, c, t);
+  deadline = rw (e, c, t);
+  steps = rw (f, c, t);
+  rows = rw (g, c, t);
+  processor = h;
+  priority = i;
+  time = j;
+}
+
+-- Over lists of zeros they are the lists of the table that the list holds, and n are its rows.
+abbrev pub blankTable : Table
+blankTable =
+    tableOf 0 0 (replicate 32 0) (replicate 32 0) (replicate 32 0) (replicate 128 0) (replicate 128 0) (replicate 128 0)
+
+pub rows-opened : {l : List ℕ} {n : ℕ} {T : Table} → TableRead l blankTable n T → n ≡ rowsIn l
+unfolding rowsIn taskField
+rows-opened r = r .rows ∙ rw (r .steps)
+
+pub table-opened : {l : List ℕ} {n p t : ℕ} {T : Table} → TableRead l blankTable n T → p ≡ word l 0 → t ≡ word l 1
+    → tableOf p t (T .period) (T .deadline) (T .steps) (T .processor) (T .priority) (T .time) ≡ tableIn l
+unfolding tableIn taskField rowField
+table-opened r a b =
+    rw (r .period, r .deadline, r .steps, r .processor, r .priority, r .time, rows-opened r, a, b)
 
 pub refused-made : (refusal : Refusal) {n v : ℕ} → n ≡ numberOf refusal → v ≡ placeOf refusal
     → _≡_ {A = RackAnswer} (record { number = n; value = v }) (refusedAs refusal)

@@ -1,15 +1,14 @@
 // Table lists: a table's words in a byte list.
 
 use crate::answer::RackAnswer;
-use columns::columns::Columns;
+use planned::plan::is_plan;
 ghost use mathlib.Core.Path.{_≡_};
 ghost use Prim.Native.Nat.{_≤_, min};
 ghost use lib.ListN.{length};
 ghost use Rattle.facts.specs.Sums.{sum};
-ghost use Rattle.table.specs.Table.{at, tableOf};
-ghost use Rattle.columns.specs.Columns.{tableIn as tableOfColumns};
+ghost use Rattle.table.specs.Table.{at, isPlan, tableOf};
 ghost use Rattle.rack.specs.Layouts.{tableIn};
-ghost use Rattle.rack.specs.LayoutsLaws.{rowsHeld};
+ghost use Rattle.rack.specs.LayoutsLaws.{TableRead};
 ghost use Rattle.rack.specs.TableLaws.{TablePut};
 
 const MOST_TASKS: u64 = 32;
@@ -43,18 +42,33 @@ pub(crate) fn rows_in(tasks: usize, steps: &[u64]) -> usize
     rows as usize
 }
 
-// How many of the table's rows there is room for.
-pub(crate) fn rows_held(columns: Columns) -> usize
-    ensures { λ r. ⌜ r ≡ rowsHeld (tableOfColumns columns) ⌝ }
+// Reads the six lists of the table that the list holds, and answers how many of its rows there is room for.
+pub(crate) fn table_in(
+    list: &[u8],
+    period: &mut [u64],
+    deadline: &mut [u64],
+    steps: &mut [u64],
+    processor: &mut [u64],
+    priority: &mut [u64],
+    time: &mut [u64],
+) -> usize
+    requires { ⌜ 32 ≤ length (now steps) ⌝ }
+    ensures { λ r. ⌜ TableRead (now (list .entry)) (tableOf 0 0 (now (period .entry)) (now (deadline .entry)) (now (steps .entry)) (now (processor .entry)) (now (priority .entry)) (now (time .entry))) r (tableOf 0 0 (now (period .exit)) (now (deadline .exit)) (now (steps .exit)) (now (processor .exit)) (now (priority .exit)) (now (time .exit))) ⌝ }
 {
-    let steps = columns.steps;
-    let tasks = tasks_held(columns.tasks);
-    rows_in(tasks, &steps)
+    let chains = tasks_held(words::get(list, 1));
+    words::get_field(list, 2, 3, chains, period);
+    words::get_field(list, 3, 3, chains, deadline);
+    words::get_field(list, 4, 3, chains, steps);
+    let rows = rows_in(chains, steps);
+    words::get_field(list, 98, 3, rows, processor);
+    words::get_field(list, 99, 3, rows, priority);
+    words::get_field(list, 100, 3, rows, time);
+    rows
 }
 
-// The table of a table list.
-pub(crate) fn columns_in(list: &[u8]) -> Columns
-    ensures { λ r. ⌜ tableOfColumns r ≡ tableIn (now (list .entry)) ⌝ }
+// Whether the table that the list holds is a plan.
+pub(crate) fn holds_plan(list: &[u8]) -> bool
+    ensures { λ r. ⌜ r ≡ isPlan (tableIn (now (list .entry))) ⌝ }
 {
     let mut period = [0u64; 32];
     let mut deadline = [0u64; 32];
@@ -62,26 +76,27 @@ pub(crate) fn columns_in(list: &[u8]) -> Columns
     let mut processor = [0u64; 128];
     let mut priority = [0u64; 128];
     let mut time = [0u64; 128];
+    table_in(
+        list,
+        &mut period,
+        &mut deadline,
+        &mut steps,
+        &mut processor,
+        &mut priority,
+        &mut time,
+    );
     let processors = words::get(list, 0);
     let tasks = words::get(list, 1);
-    let chains = tasks_held(tasks);
-    words::get_field(list, 2, 3, chains, &mut period);
-    words::get_field(list, 3, 3, chains, &mut deadline);
-    words::get_field(list, 4, 3, chains, &mut steps);
-    let rows = rows_in(chains, &steps);
-    words::get_field(list, 98, 3, rows, &mut processor);
-    words::get_field(list, 99, 3, rows, &mut priority);
-    words::get_field(list, 100, 3, rows, &mut time);
-    Columns {
+    is_plan(
         processors,
         tasks,
-        period,
-        deadline,
-        steps,
-        processor,
-        priority,
-        time,
-    }
+        &period,
+        &deadline,
+        &steps,
+        &processor,
+        &priority,
+        &time,
+    )
 }
 
 // Writes a table into the list, and answers the number of its rows.

@@ -22,9 +22,9 @@ use denote.Struct.Laws as LL
 use denote.Triple.Statement.{Triple}
 use denote.Triple.Clauses.{Ended, Clauses}
 use denote.Exit.{yes}
-use Rattle.byvalue.specs.declared.sheet.Sheet.{Sheet}
-use Rattle.byvalue.proofs.sheet.Sheet as S
-use Rattle.byvalue.proofs.sheet.Sheet.Laws as S′
+use Rattle.sheets.specs.declared.sheet.Sheet.{Sheet}
+use Rattle.sheets.proofs.sheet.Sheet as S
+use Rattle.sheets.proofs.sheet.Sheet.Laws as S′
 use Rattle.recorded.proofs.Asked.{Callee, asks}
 
 module _ (X : RattleType) (f : Sheet → X .Denot) where

@@ -7,8 +7,8 @@ use Rattle.planfile.specs.declared.read.Reading.{Reading}
 use Rattle.columns.specs.declared.columns.Chain.{Chain}
 use Rattle.columns.specs.declared.columns.Row.{Row}
 use Rattle.columns.specs.Columns.{chainOf, rowOf}
-use Rattle.byvalue.specs.declared.sheet.Sheet.{Sheet}
-use Rattle.byvalue.specs.Sheet.{sheetOf}
+use Rattle.sheets.specs.declared.sheet.Sheet.{Sheet}
+use Rattle.sheets.specs.Sheet.{sheetOf}
 
 -- The answer of reading and the two lists of records as they then are.
 pub record RecordsOutcome : Type 0 where

@@ -12,9 +12,9 @@ use Rattle.columns.specs.declared.columns.Columns.{Columns}
 use Rattle.columns.specs.declared.columns.Chain.{Chain}
 use Rattle.columns.specs.declared.columns.Row.{Row}
 use Rattle.records.specs.Records.{laidChains, laidRows}
-use Rattle.byvalue.specs.declared.sheet.Sheet.{Sheet}
-use Rattle.byvalue.specs.Sheet.{sheetOf}
-use Rattle.byvalue.specs.SheetLaws.{Fits, sheet-fits, refused-lays-none}
+use Rattle.sheets.specs.declared.sheet.Sheet.{Sheet}
+use Rattle.sheets.specs.Sheet.{sheetOf}
+use Rattle.sheets.specs.SheetLaws.{Fits, sheet-fits, refused-lays-none}
 use Rattle.recorded.specs.RecordsRead.{RecordsOutcome, laidOver, recordsRead}
 
 -- There is room for all records of the sheet, so all are laid.

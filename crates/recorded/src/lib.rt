@@ -1,7 +1,6 @@
 // A table held as records in lent lists, written, bounded, reported and read.
 
 use bounds::Bounded;
-use byvalue::sheet;
 use columns::columns::Chain;
 use columns::columns::Row;
 use planfile::read::Reading;
@@ -10,6 +9,7 @@ use records::apart::columns_of;
 use records::fill::lay_chains;
 use records::fill::lay_rows;
 use report::Reporting;
+use sheets::sheet;
 ghost use mathlib.Core.Path.{_≡_};
 ghost use Rattle.planfile.specs.Writing as planfile;
 ghost use Rattle.planfile.specs.Writing.{WriteOutcome};

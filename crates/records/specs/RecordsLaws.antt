@@ -12,7 +12,7 @@ use Rattle.facts.specs.Filled.{tab, filled}
 use Rattle.facts.specs.FilledLaws.{filled-more, length-filled, getD-filled, getD-rest}
 use Rattle.facts.specs.SumsLaws.{sum-ext}
 use Rattle.facts.specs.Tests.{all}
-use Rattle.facts.specs.TestsLaws.{all-fails, and-false}
+use Rattle.facts.specs.TestsLaws.{all-fails, and-false, all-ext}
 use Rattle.table.specs.Keys.{processorsKey, tasksKey}
 use Rattle.table.specs.Ranges.{ranges, rangeOf, inRange}
 use Rattle.table.specs.RangesLaws.{within-of}
@@ -78,21 +78,13 @@ column-same field none z l m = record {
         ∙ getD-replicate m i 0 0 h
         ∙ sym (List·getD-eq-default (map field l) 0 {n = i} (omega (arith, length-map l field)))
 
-all-ext : (n : ℕ) (f g : ℕ → Bool) → ((k : ℕ) → k < n → f k ≡ g k) → all n f ≡ all n g
-unfolding all
-all-ext zero f g h = refl
-all-ext (suc n) f g h =
-    let a : all n f ≡ all n g = all-ext n f g (λ k l. h k (omega arith)) in
-    let b : f n ≡ g n = h n (omega arith) in
-    cc
-
 -- A test of each place's three numbers that fails at three zeros, up to n places: on the columns, and on the lists.
 tests-same : (f : ℕ → ℕ → ℕ → Bool) → f 0 0 0 ≡ false → (n m len : ℕ) → n ≤ m → (a b c a′ b′ c′ : List ℕ) → Same m len a a′ → Same m len b b′ → Same m len c c′
     → longEnough n a b c && all n (λ i. f (at a i) (at b i) (at c i)) ≡ longEnough n a′ b′ c′ && all n (λ i. f (at a′ i) (at b′ i) (at c′ i))
 tests-same f z n m len h a b c a′ b′ c′ sa sb sc = go (decLe n len)
   where
     same : all n (λ i. f (at a i) (at b i) (at c i)) ≡ all n (λ i. f (at a′ i) (at b′ i) (at c′ i))
-    same = all-ext n (λ i. f (at a i) (at b i) (at c i)) (λ i. f (at a′ i) (at b′ i) (at c′ i)) (λ i l. rw (sa .each i (omega arith), sb .each i (omega arith), sc .each i (omega arith)))
+    same = all-ext n {f = λ i. f (at a i) (at b i) (at c i)} {g = λ i. f (at a′ i) (at b′ i) (at c′ i)} (λ i l. rw (sa .each i (omega arith), sb .each i (omega arith), sc .each i (omega arith)))
 
     enough : longEnough n a b c ≡ true
     enough = long-true n a b c (record { one = omega (arith, sa .size); two = omega (arith, sb .size); three = omega (arith, sc .size) })

@@ -10,7 +10,7 @@ use lib.Signed.{leZ}
 use Rattle.facts.specs.Tests.{all}
 use Rattle.facts.specs.Sums.{sum, sumIf}
 use Rattle.facts.specs.SumsLaws.{sum-ext, sumIf-ext}
-use Rattle.facts.specs.TestsLaws.{clash}
+use Rattle.facts.specs.TestsLaws.{clash, all-ext}
 use Rattle.table.specs.Table.{Table, at, firstRow, rows, isPlan}
 use Rattle.table.specs.TableLaws.{Checked, checked}
 use Rattle.table.specs.Plan.{Plan, planOf, taskOf, cost, inForce}
@@ -18,7 +18,6 @@ use Rattle.table.specs.PlanLaws.{task-row}
 use Rattle.equations.specs.Row.{Row}
 use Rattle.equations.specs.Beside.{level, beside, demand, rowOf}
 use Rattle.bounds.specs.Bounds.{Numbers, Analysis, Stuck, chainBound, accepted, slackOf}
-use Rattle.bounds.specs.General.{all-ext}
 use Rattle.report.specs.Load.{loadOf, load}
 use Rattle.report.specs.Report.{figures, reportText}
 use Rattle.report.specs.ReportLaws.{report-alike}

@@ -12,9 +12,9 @@ use Rattle.table.specs.declared.refusal.Refusal.{Refusal}
 use Rattle.table.specs.Table.{Table, at, rows, isPlan}
 use Rattle.table.specs.TableLaws.{checked}
 use Rattle.table.specs.Plan.{planOf}
-use Rattle.table.specs.View as view
-use Rattle.table.specs.declared.plan.View.{View}
-use Rattle.table.specs.declared.plan.View.the-variants.{Rows, Refused}
+use Rattle.planned.specs.View as view
+use Rattle.planned.specs.declared.plan.View.{View}
+use Rattle.planned.specs.declared.plan.View.the-variants.{Rows, Refused}
 use Rattle.report.specs.Reporting as reporting
 use Rattle.report.specs.Reporting.{refused, Reported}
 

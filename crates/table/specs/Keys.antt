@@ -30,3 +30,7 @@ priorityKey = 8
 
 abbrev pub timeKey : ℕ
 timeKey = 9
+
+-- The number that is no key's.
+abbrev pub noKey : ℕ
+noKey = 10

@@ -3,9 +3,7 @@ pub mod Ranges
 pub mod Table
 pub mod Plan
 pub mod Refusals
-pub mod View
 pub mod RangesLaws
 pub mod TableLaws
 pub mod PlanLaws
-pub mod ViewLaws
 pub mod OutcomesLaws

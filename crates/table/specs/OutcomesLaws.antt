@@ -2,15 +2,12 @@
 use Prim.Native.Nat.{ℕ}
 use mathlib.Core.Path.{_≡_}
 use mathlib.Core.Bool.{Bool}
-use mathlib.Core.List.{List}
 use Rattle.facts.specs.OutcomesLaws.{equation-one}
 use Rattle.table.specs.declared.ranges.Range.{Range}
 use Rattle.table.specs.declared.refusal.Refusal.{Refusal}
 use Rattle.table.specs.Plan.{deadlineFrom}
 use Rattle.table.specs.Ranges.{rangeOf, inRange}
 use Rattle.table.specs.Refusals.{numberOf, placeOf}
-use Rattle.table.specs.Table.{Table, isPlan}
-use Rattle.table.specs.View.{Viewed, viewed}
 
 pub range-of-one : (key own : ℕ) {x y : Range} → x ≡ rangeOf key own → y ≡ rangeOf key own → x ≡ y
 range-of-one key own = equation-one
@@ -27,9 +24,3 @@ place-of-one refusal = equation-one
 pub in-force-one :
     (period deadline : ℕ) {x y : ℕ} → x ≡ deadlineFrom period deadline → y ≡ deadlineFrom period deadline → x ≡ y
 in-force-one period deadline = equation-one
-
-pub is-plan-one : (T : Table) {x y : Bool} → x ≡ isPlan T → y ≡ isPlan T → x ≡ y
-is-plan-one T = equation-one
-
-pub view-rows-one : (T : Table) (p : List ℕ) (f : List Bool) {x y : Viewed} → x ≡ viewed T p f → y ≡ viewed T p f → x ≡ y
-view-rows-one T p f = equation-one

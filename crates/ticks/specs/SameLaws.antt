@@ -7,12 +7,12 @@ use lib.Dec.{leb, ltb, eqb}
 use Rattle.facts.specs.Tests.{all}
 use Rattle.facts.specs.Filled.{filled}
 use Rattle.facts.specs.FilledLaws.{filled-ext, getD-filled, length-filled}
+use Rattle.facts.specs.TestsLaws.{all-ext}
 use Rattle.table.specs.Plan.{Plan}
 use Rattle.guards.specs.declared.state.State.{State}
 use Rattle.guards.specs.Moment.{Moment, momentOf, stateWith}
 use Rattle.guards.specs.Running.{isOpen}
 use Rattle.guards.specs.Machine.{idle, opened, due, letGo}
-use Rattle.guards.specs.AlikeLaws.{all-ext}
 use Rattle.guards.specs.ListsLaws.{filled-again}
 use Rattle.guards.specs.Lent.{Long}
 

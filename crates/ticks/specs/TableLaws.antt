@@ -23,36 +23,25 @@ use Rattle.guards.specs.Machine.{worked, beforeRelease, due, ticked}
 use Rattle.guards.specs.Fits.{fits}
 use Rattle.guards.specs.Rows.{planFrom}
 use Rattle.guards.specs.Calls.{TickOutcome, isDone, releasedByte, stays, taken, tick, usedUp, wrongDone}
-use Rattle.guards.specs.LentLaws.{held, tick-lent-no-plan, tick-lent-short, tick-lent-held}
+use Rattle.guards.specs.LentLaws.{held, rows-fit-lent, tick-lent-no-plan, tick-lent-short, tick-lent-held}
 use Rattle.guards.specs.LentCalls.{leaves, fitsHeld, fits-held, fits-fits}
 use Rattle.guards.specs.declared.state.Called.{Called}
-use Rattle.guards.specs.BoundsLaws.{Bounded, bounded}
 use Rattle.guards.specs.RowsLaws.{RowsOf}
-use Rattle.guards.specs.Lent.{Long, refusedAt, tickOnLists}
-use Rattle.ticks.specs.Ticking.{Ready, doneTick, openTick, told}
+use Rattle.guards.specs.Lent.{refusedAt, tickOnLists}
+use Rattle.ticks.specs.Ticking.{Listed, doneTick, clockTick, openTick, rowsTick, told}
 use Rattle.ticks.specs.FoundLaws.{best-ext}
 use Rattle.ticks.specs.TickingLaws.{lowest-ext}
 use Rattle.ticks.specs.SameLaws.{Same, Chained, with-same, opened-same, due-same, let-go-same}
 
-module _ {T : Table} {R : Rows} (o : RowsOf T R) (σ : State) where
-  abbrev listed : Plan
-  listed = planFrom (R .count) (R .period) (R .first) (T .processor) (T .priority) (T .time)
-
-  -- Where the state fits the plan, a tick knows what it needs.
-  pub ready : Long (rows T) σ → fits (planOf T) (momentOf σ) ≡ true → Ready R (T .processors) (T .processor) (T .priority) (T .time) σ
-  unfolding planOf cost
-  ready z e =
+module _ {T : Table} {R : Rows} (o : RowsOf T R) where
+  -- A tick knows what it needs of the rows.
+  pub listing : Listed R (T .processors) (T .processor) (T .priority) (T .time)
+  unfolding planOf
+  listing =
       let ok : Checked T = checked T (o .plan) in
-      let b : Bounded (planOf T) (momentOf σ) = bounded (planOf T) (momentOf σ) e in
       record {
         some = omega (arith, o .count, small-of T ok .some);
         few = omega (arith, o .count, ok .rows-most);
-        long = record {
-          released = omega (arith, o .count, z .released);
-          completed = omega (arith, o .count, z .completed);
-          used = omega (arith, o .count, z .used);
-          guard = omega (arith, o .count, z .guard);
-        };
         period-long = omega (arith, o .count, o .period-long);
         first-long = omega (arith, o .count, o .first-long);
         processor-long = omega (arith, o .count, ok .row-lists .one);
@@ -63,16 +52,14 @@ module _ {T : Table} {R : Rows} (o : RowsOf T R) (σ : State) where
         processor-most = λ r l. ok .row r (below r l) .processor-most;
         period-most = λ r l. omega (arith, o .period r (below r l), small-of T ok .period-most r (below r l));
         time-most = λ r l. ok .row r (below r l) .time-most;
-        bounded = record {
-          clock = b .clock;
-          completed = λ r l. b .completed r (below r l);
-          released = λ r l. b .released r (below r l);
-          used = λ r l. b .used r (below r l);
-        };
       }
     where
       below : (r : ℕ) → r < R .count → r < rows T
       below r l = omega (arith, o .count)
+
+module _ {T : Table} {R : Rows} (o : RowsOf T R) (σ : State) where
+  abbrev listed : Plan
+  listed = planFrom (R .count) (R .period) (R .first) (T .processor) (T .priority) (T .time)
 
   -- The lists and the plan agree on the row that runs,
   running-same : (x : ℕ) → running listed (momentOf σ) x ≡ running (planOf T) (momentOf σ) x
@@ -136,14 +123,14 @@ module _ {T : Table} {R : Rows} (o : RowsOf T R) (σ : State) where
       (record { outcome = taken (σ .clock + 1) (state-same done i); released = bytes-same done released i }))
 
   pub open-tick-same : (n : ℕ) (done released : List ℕ) → openTick n listed σ done released ≡ openTick n (planOf T) σ done released
-  unfolding openTick planOf
+  unfolding openTick clockTick planOf
   open-tick-same n done released = λ i.
       cond (not (eqb (length done) n)) (stays (WrongDoneLength n) σ released)
       (cond (ltb (length released) (o .count i)) (stays (TooShort (o .count i)) σ released)
       (cond (eqb (σ .clock) lastClock) (stays ClockAtEnd σ released)
       (done-tick-same n done released i)))
 
--- The answers of a tick on lists: 5, 14, and a tick of the plan.
+-- The answers of a tick on lists: 5, and a tick of the plan's rows.
 module _ (T : Table) (σ : State) (done out : List ℕ) where
   pub tick-none :
       {o : Called} → o ≡ refusedAt NotAPlan (σ .clock) → isPlan T ≡ false
@@ -152,11 +139,9 @@ module _ (T : Table) (σ : State) (done out : List ℕ) where
   tick-none e p =
       ap (λ (o : Called). told out (leaves σ o)) e ∙ sym (tick-lent-no-plan T σ out (tick T σ done out) p ∙ rw p)
 
-  pub tick-unfit :
-      {o : Called} → o ≡ refusedAt StateDoesNotFit (σ .clock) → isPlan T ≡ true → fitsHeld T σ ≡ false
-      → told out (leaves σ o) ≡ tickOnLists T σ out (tick T σ done out)
+  tick-unfit : isPlan T ≡ true → fitsHeld T σ ≡ false → stays StateDoesNotFit σ out ≡ tickOnLists T σ out (tick T σ done out)
   unfolding tick
-  tick-unfit e p f = ap (λ (o : Called). told out (leaves σ o)) e ∙ go (held (rows T) σ) refl f
+  tick-unfit p f = go (held (rows T) σ) refl f
     where
       go :
           (b : Bool) → held (rows T) σ ≡ b → b && fits (planOf T) (momentOf σ) ≡ false
@@ -164,11 +149,22 @@ module _ (T : Table) (σ : State) (done out : List ℕ) where
       go false h f = sym (tick-lent-short T σ out (tick T σ done out) p h)
       go true h f = sym (tick-lent-held T σ out (tick T σ done out) h ∙ rw (p, f))
 
-  pub tick-made :
-      {R : Rows} (o : RowsOf T R) → fitsHeld T σ ≡ true → {x : TickOutcome}
-      → x ≡ openTick (T .processors) (planFrom (R .count) (R .period) (R .first) (T .processor) (T .priority) (T .time)) σ done out
-      → x ≡ tickOnLists T σ out (tick T σ done out)
-  unfolding tick openTick doneTick planOf releasedByte
-  tick-made o f e =
-      e ∙ open-tick-same o σ (T .processors) done out
-      ∙ sym (tick-lent-held T σ out (tick T σ done out) (fits-held T σ f) ∙ rw (o .plan, fits-fits T σ f))
+  module _ {R : Rows} (o : RowsOf T R) where
+    tick-fit :
+        fitsHeld T σ ≡ true
+        → openTick (T .processors) (planFrom (R .count) (R .period) (R .first) (T .processor) (T .priority) (T .time)) σ done out
+        ≡ tickOnLists T σ out (tick T σ done out)
+    unfolding tick openTick clockTick doneTick planOf releasedByte
+    tick-fit f =
+        open-tick-same o σ (T .processors) done out
+        ∙ sym (tick-lent-held T σ out (tick T σ done out) (fits-held T σ f) ∙ rw (o .plan, fits-fits T σ f))
+
+    pub tick-made :
+        {x : TickOutcome} → x ≡ rowsTick (T .processors) R (T .processor) (T .priority) (T .time) σ done out
+        → x ≡ tickOnLists T σ out (tick T σ done out)
+    unfolding rowsTick
+    tick-made e = e ∙ go (fitsHeld T σ) refl
+      where
+        go : (b : Bool) → fitsHeld T σ ≡ b → rowsTick (T .processors) R (T .processor) (T .priority) (T .time) σ done out ≡ tickOnLists T σ out (tick T σ done out)
+        go true f = rw (rows-fit-lent o σ ∙ f) (tick-fit f)
+        go false f = rw (rows-fit-lent o σ ∙ f) (tick-unfit (o .plan) f)

@@ -1,10 +1,10 @@
 -- What the parts of a tick find and make is what the plan says.
 use Prim.Native.Nat.{ℕ, zero, suc, pred, _+_, _≤_, _<_}
 use mathlib.Core.Path.{_≡_, refl, sym, _∙_, ap}
-use mathlib.Core.Bool.{Bool, cond, _&&_, _||_}
+use mathlib.Core.Bool.{Bool, true, cond, _&&_, _||_}
 use mathlib.Core.List.{List, []}
 use native.Mathlib.Omega.{arith}
-use borrow.Author.Tests.{lt-ltb, le-ltb}
+use borrow.Author.Tests.{lt-ltb, le-ltb, eq-eqb, ne-eqb}
 use lib.Dec.{ltb, eqb}
 use lib.ListN.{length, getD}
 use Rattle.facts.specs.Tests.{lowest}
@@ -19,15 +19,34 @@ use Rattle.guards.specs.Running.{isOpen, best, running, runs}
 use Rattle.guards.specs.Machine.{worked, opened, beforeRelease, due, letGo, ticked}
 use Rattle.guards.specs.Rows.{planFrom}
 use Rattle.guards.specs.Calls.{isDone, taken, wrongDone, usedUp}
-use Rattle.guards.specs.Lent.{stateOf, outcomeOf, refusedAt, takenAt}
+use Rattle.guards.specs.Lent.{stateOf, outcomeOf, refusedAt, takenAt, stand, rowsFitIn}
 use Rattle.guards.specs.LentCalls.{leaves}
+use Rattle.guards.specs.LentLaws.{held, held-long}
+use Rattle.guards.specs.PartsLaws.{rows-fit-listed}
+use Rattle.guards.specs.BoundsLaws.{bounded}
+use Rattle.facts.specs.TestsLaws.{and-left, and-right}
+use Rattle.table.specs.Refusals.{lastClock}
 use Rattle.guards.specs.declared.state.Called.{Called}
-use Rattle.table.specs.declared.refusal.Refusal.the-variants.{WrongDoneByte, TimeUsedUp}
+use Rattle.table.specs.declared.refusal.Refusal.the-variants.{WrongDoneByte, TimeUsedUp, ClockAtEnd}
 use Rattle.ticks.specs.Done.{wrongHere, upHere, Timely}
 use Rattle.ticks.specs.Steps.{Placed, Working, Stepping, chains, readied, stepped, ran, runsIn, endsIn}
-use Rattle.ticks.specs.Ticking.{Ready, Going, told, doneTick}
+use Rattle.ticks.specs.Ticking.{Listed, Ready, Going, told, doneTick, clockTick}
 use Rattle.ticks.specs.FoundLaws.{best-ext, best-most}
 use Rattle.ticks.specs.SameLaws.{Same, Chained, with-same, opened-same, due-same, let-go-same}
+
+-- A state that fits the rows is ready for a tick.
+pub readying :
+    (R : Rows) (processors : ℕ) (processor priority time : List ℕ) (σ : State) → Listed R processors processor priority time
+    → rowsFitIn R time σ ≡ true → Ready R processors processor priority time σ
+unfolding rowsFitIn
+readying R processors processor priority time σ l e =
+    let a = and-right (stand (R .count) (R .period) (R .first) time) _ e in
+    let b = bounded (planFrom (R .count) (R .period) (R .first) [] [] time) (momentOf σ) (sym (rows-fit-listed R time σ (l .few) (l .time-long)) ∙ and-right (held (R .count) σ) _ a) in
+    record {
+      listed = l;
+      long = held-long (R .count) σ (and-left (held (R .count) σ) _ a);
+      bounded = record { clock = b .clock; completed = b .completed; released = b .released; used = b .used };
+    }
 
 -- Searches by tests that agree find the same.
 pub lowest-ext : (n : ℕ) {f g : ℕ → Bool} → ((k : ℕ) → k < n → f k ≡ g k) → lowest n f ≡ lowest n g
@@ -72,8 +91,8 @@ module _ (R : Rows) (processor priority time : List ℕ) (σ : State) {list : Li
         let b : at list x ≤ R .count = rw (running-here x l) (best-most plan (isOpen (momentOf σ)) x (R .count)) in
         record {
           used-long = omega (arith, ready .long .used);
-          time-long = omega (arith, ready .time-long);
-          used-most = λ p. omega (arith, ready .bounded .used (pred (at list x)) (before (at list x) p b), ready .time-most (pred (at list x)) (before (at list x) p b));
+          time-long = omega (arith, ready .listed .time-long);
+          used-most = λ p. omega (arith, ready .bounded .used (pred (at list x)) (before (at list x) p b), ready .listed .time-most (pred (at list x)) (before (at list x) p b));
         }
       where
         before : (i : ℕ) → 0 < i → i ≤ R .count → pred i < R .count
@@ -82,33 +101,33 @@ module _ (R : Rows) (processor priority time : List ℕ) (σ : State) {list : Li
 
     -- What the steps ask.
     pub stepping :
-        (done released : List ℕ) → Going R processors processor priority time σ done released
+        (done released : List ℕ) → Going R processors processor priority time σ done released → (σ .clock ≡ lastClock → ⊥)
         → Stepping R processor list done σ released
     unfolding momentOf
-    stepping done released k = record {
-      some = ready .some;
+    stepping done released k n = record {
+      some = ready .listed .some;
       long = ready .long;
-      period-long = ready .period-long;
-      first-long = ready .first-long;
+      period-long = ready .listed .period-long;
+      first-long = ready .listed .first-long;
       working = record {
-        few = ready .few;
-        processor-long = ready .processor-long;
-        processor-least = ready .processor-least;
-        processor-most = λ r l. omega (arith, ready .processor-most r l, k .done-long);
-        running-long = omega (arith, list-long, k .done-long, ready .processors-most);
+        few = ready .listed .few;
+        processor-long = ready .listed .processor-long;
+        processor-least = ready .listed .processor-least;
+        processor-most = λ r l. omega (arith, ready .listed .processor-most r l, k .done-long);
+        running-long = omega (arith, list-long, k .done-long, ready .listed .processors-most);
         completed-long = ready .long .completed;
         used-long = ready .long .used;
         completed-most = λ r l. omega (arith, ready .bounded .completed r l, ready .bounded .released r l, ready .bounded .clock);
-        used-most = λ r l. omega (arith, ready .bounded .used r l, ready .time-most r l);
+        used-most = λ r l. omega (arith, ready .bounded .used r l, ready .listed .time-most r l);
       };
       placed = record {
-        few = ready .few;
-        processor-long = ready .processor-long;
-        processor-most = λ r l. omega (arith, ready .processor-most r l, ready .processors-most);
+        few = ready .listed .few;
+        processor-long = ready .listed .processor-long;
+        processor-most = λ r l. omega (arith, ready .listed .processor-most r l, ready .listed .processors-most);
       };
-      clock-below = k .clock-below;
+      clock-below = omega (arith, n, ready .bounded .clock);
       released-most = λ r l. omega (arith, ready .bounded .released r l, ready .bounded .clock);
-      period-most = ready .period-most;
+      period-most = ready .listed .period-most;
       released-long = k .released-long;
     }
 
@@ -126,7 +145,7 @@ module _ (R : Rows) (processor priority time : List ℕ) (σ : State) {list : Li
     }
       where
         here : (r : ℕ) → r < R .count → at list (at processor r) ≡ running plan (momentOf σ) (at processor r)
-        here r l = running-here (at processor r) (omega (arith, ready .processor-most r l, ready .processors-most))
+        here r l = running-here (at processor r) (omega (arith, ready .listed .processor-most r l, ready .listed .processors-most))
 
     chained : Chained (R .count) (chains R processor) plan
     chained = record { left = refl; right = refl; period = λ r l. refl; first = λ r l. refl; processor = λ r l. refl }
@@ -149,30 +168,36 @@ module _ (R : Rows) (processor priority time : List ℕ) (σ : State) {list : Li
         ≡ filled (λ r. cond (due plan (beforeRelease plan (momentOf σ) (isDone done)) r) 1 0) (R .count) released
     bytes-ticked done released = filled-ext _ _ (R .count) released (λ r l. rw (due-same (readied-is done) chained r l))
 
--- The answers of a tick on lists, from 11 on.
+-- The answers of a tick on lists, from 13 on.
 module _ (processors : ℕ) (P : Plan) (σ : State) (done out : List ℕ) where
-  pub done-wrong :
-      {o : Called} {w : ℕ} → o ≡ refusedAt (WrongDoneByte (w + 1)) (σ .clock)
-      → w ≡ lowest processors (wrongDone P (momentOf σ) done) → w < processors
-      → told out (leaves σ o) ≡ doneTick processors P σ done out
-  unfolding doneTick
-  done-wrong e f l = ap (λ (o : Called). told out (leaves σ o)) e ∙ rw (← f, lt-ltb _ _ l)
+  pub clock-end :
+      {o : Called} → o ≡ refusedAt ClockAtEnd (σ .clock) → σ .clock ≡ lastClock
+      → told out (leaves σ o) ≡ clockTick processors P σ done out
+  unfolding clockTick
+  clock-end e l = ap (λ (o : Called). told out (leaves σ o)) e ∙ rw (eq-eqb _ _ l)
 
-  module _ {w : ℕ} (f : w ≡ lowest processors (wrongDone P (momentOf σ) done)) (l : processors ≤ w) where
-    pub done-up :
-        {o : Called} {u : ℕ} → o ≡ refusedAt (TimeUsedUp (u + 1)) (σ .clock)
-        → u ≡ lowest processors (usedUp P (momentOf σ) done) → u < processors
-        → told out (leaves σ o) ≡ doneTick processors P σ done out
-    unfolding doneTick
-    done-up e g m = ap (λ (o : Called). told out (leaves σ o)) e ∙ rw (← f, le-ltb _ _ l, ← g, lt-ltb _ _ m)
+  module _ (n : σ .clock ≡ lastClock → ⊥) {w : ℕ} (f : w ≡ lowest processors (wrongDone P (momentOf σ) done)) where
+    pub done-wrong :
+        {o : Called} → o ≡ refusedAt (WrongDoneByte (w + 1)) (σ .clock) → w < processors
+        → told out (leaves σ o) ≡ clockTick processors P σ done out
+    unfolding clockTick doneTick
+    done-wrong e l = ap (λ (o : Called). told out (leaves σ o)) e ∙ rw (ne-eqb _ _ n, ← f, lt-ltb _ _ l)
 
-    pub done-made :
-        {o : Called} {u : ℕ} {released completed used guard bytes : List ℕ} → o ≡ takenAt (σ .clock + 1) (σ .clock + 1)
-        → u ≡ lowest processors (usedUp P (momentOf σ) done) → processors ≤ u
-        → stateOf (σ .clock + 1) released completed used guard ≡ stateWith (P .rows) (ticked P (momentOf σ) (isDone done)) σ
-        → bytes ≡ filled (λ r. cond (due P (beforeRelease P (momentOf σ) (isDone done)) r) 1 0) (P .rows) out
-        → told bytes (outcomeOf o released completed used guard) ≡ doneTick processors P σ done out
-    unfolding doneTick
-    done-made {o} {u} {released} {completed} {used} {guard} {bytes} e g m state list =
-        ap (λ (o : Called). told bytes (outcomeOf o released completed used guard)) e
-        ∙ rw (← f, le-ltb _ _ l, ← g, le-ltb _ _ m) (λ i. record { outcome = taken (σ .clock + 1) (state i); released = list i })
+    module _ (l : processors ≤ w) where
+      pub done-up :
+          {o : Called} {u : ℕ} → o ≡ refusedAt (TimeUsedUp (u + 1)) (σ .clock)
+          → u ≡ lowest processors (usedUp P (momentOf σ) done) → u < processors
+          → told out (leaves σ o) ≡ clockTick processors P σ done out
+      unfolding clockTick doneTick
+      done-up e g m = ap (λ (o : Called). told out (leaves σ o)) e ∙ rw (ne-eqb _ _ n, ← f, le-ltb _ _ l, ← g, lt-ltb _ _ m)
+
+      pub done-made :
+          {o : Called} {u : ℕ} {released completed used guard bytes : List ℕ} → o ≡ takenAt (σ .clock + 1) (σ .clock + 1)
+          → u ≡ lowest processors (usedUp P (momentOf σ) done) → processors ≤ u
+          → stateOf (σ .clock + 1) released completed used guard ≡ stateWith (P .rows) (ticked P (momentOf σ) (isDone done)) σ
+          → bytes ≡ filled (λ r. cond (due P (beforeRelease P (momentOf σ) (isDone done)) r) 1 0) (P .rows) out
+          → told bytes (outcomeOf o released completed used guard) ≡ clockTick processors P σ done out
+      unfolding clockTick doneTick
+      done-made {o} {u} {released} {completed} {used} {guard} {bytes} e g m state list =
+          ap (λ (o : Called). told bytes (outcomeOf o released completed used guard)) e
+          ∙ rw (ne-eqb _ _ n, ← f, le-ltb _ _ l, ← g, le-ltb _ _ m) (λ i. record { outcome = taken (σ .clock + 1) (state i); released = list i })

@@ -7,12 +7,10 @@ use crate::release::let_go;
 use crate::release::open_guards;
 use crate::running::running_rows;
 use crate::work::work;
-use guards::fits::rows_fit;
+use fitting::fits::rows_fit;
 use guards::rows::rows_in;
 use guards::state::Called;
 use guards::state::LAST_CLOCK;
-use guards::state::Outcome;
-use guards::state::State;
 use guards::state::refused;
 use guards::state::taken;
 use table::refusal::Refusal;
@@ -28,7 +26,7 @@ ghost use Rattle.guards.specs.Lent.{outcomeOf, stateOf, tickOnLists};
 ghost use Rattle.guards.specs.Calls as calls;
 ghost use Rattle.guards.specs.Calls.{TickOutcome};
 ghost use Rattle.ticks.specs.Steps.{Stepping, chains, readied, stepped};
-ghost use Rattle.ticks.specs.Ticking.{Going, Ready, doneTick, openTick};
+ghost use Rattle.ticks.specs.Ticking.{Going, Listed, clockTick, rowsTick};
 
 // Steps 1 to 5; the clock after them is one more.
 fn steps(
@@ -63,7 +61,7 @@ fn steps(
     );
 }
 
-// A tick whose done list, release list and clock are right: 11, 12, and the steps.
+// A tick whose done list and release list are right: 13, 11, 12, and the steps.
 fn tick_done(
     count: usize,
     periods: &[u64],
@@ -81,8 +79,11 @@ fn tick_done(
     out: &mut [u8],
 ) -> Called
     requires { ⌜ Going (record { count = count; period = now periods; first = now firsts }) processors (now processor) (now priority) (now time) (stateOf clock (now released) (now completed) (now used) (now guard)) (now done) (now out) ⌝ }
-    ensures { λ r. ⌜ _≡_ {A = TickOutcome} (record { outcome = outcomeOf r (now (released .exit)) (now (completed .exit)) (now (used .exit)) (now (guard .exit)); released = now (out .exit) }) (doneTick processors (planFrom count (now (periods .entry)) (now (firsts .entry)) (now (processor .entry)) (now (priority .entry)) (now (time .entry))) (stateOf clock (now (released .entry)) (now (completed .entry)) (now (used .entry)) (now (guard .entry))) (now (done .entry)) (now (out .entry))) ⌝ }
+    ensures { λ r. ⌜ _≡_ {A = TickOutcome} (record { outcome = outcomeOf r (now (released .exit)) (now (completed .exit)) (now (used .exit)) (now (guard .exit)); released = now (out .exit) }) (clockTick processors (planFrom count (now (periods .entry)) (now (firsts .entry)) (now (processor .entry)) (now (priority .entry)) (now (time .entry))) (stateOf clock (now (released .entry)) (now (completed .entry)) (now (used .entry)) (now (guard .entry))) (now (done .entry)) (now (out .entry))) ⌝ }
 {
+    if clock == LAST_CLOCK {
+        return refused(Refusal::ClockAtEnd, clock);
+    }
     let running = running_rows(count, processor, priority, released, completed);
     let wrong = lowest_wrong(processors, done, &running);
     if wrong < processors {
@@ -109,7 +110,7 @@ fn tick_done(
     taken(clock + 1, clock + 1)
 }
 
-// A tick of a plan that the state fits: 10, 7, 13, and the rest.
+// A tick of a plan's rows: 14, 10, 7, and the rest.
 fn tick_open(
     count: usize,
     periods: &[u64],
@@ -126,17 +127,27 @@ fn tick_open(
     done: &[u8],
     out: &mut [u8],
 ) -> Called
-    requires { ⌜ Ready (record { count = count; period = now periods; first = now firsts }) processors (now processor) (now priority) (now time) (stateOf clock (now released) (now completed) (now used) (now guard)) ⌝ }
-    ensures { λ r. ⌜ _≡_ {A = TickOutcome} (record { outcome = outcomeOf r (now (released .exit)) (now (completed .exit)) (now (used .exit)) (now (guard .exit)); released = now (out .exit) }) (openTick processors (planFrom count (now (periods .entry)) (now (firsts .entry)) (now (processor .entry)) (now (priority .entry)) (now (time .entry))) (stateOf clock (now (released .entry)) (now (completed .entry)) (now (used .entry)) (now (guard .entry))) (now (done .entry)) (now (out .entry))) ⌝ }
+    requires { ⌜ Listed (record { count = count; period = now periods; first = now firsts }) processors (now processor) (now priority) (now time) ⌝ }
+    ensures { λ r. ⌜ _≡_ {A = TickOutcome} (record { outcome = outcomeOf r (now (released .exit)) (now (completed .exit)) (now (used .exit)) (now (guard .exit)); released = now (out .exit) }) (rowsTick processors (record { count = count; period = now (periods .entry); first = now (firsts .entry) }) (now (processor .entry)) (now (priority .entry)) (now (time .entry)) (stateOf clock (now (released .entry)) (now (completed .entry)) (now (used .entry)) (now (guard .entry))) (now (done .entry)) (now (out .entry))) ⌝ }
 {
+    if !rows_fit(
+        count,
+        periods,
+        firsts,
+        time,
+        clock,
+        released,
+        completed,
+        used,
+        guard,
+    ) {
+        return refused(Refusal::StateDoesNotFit, clock);
+    }
     if done.len() != processors {
         return refused(Refusal::WrongDoneLength(processors as u64), clock);
     }
     if out.len() < count {
         return refused(Refusal::TooShort(count as u64), clock);
-    }
-    if clock == LAST_CLOCK {
-        return refused(Refusal::ClockAtEnd, clock);
     }
     tick_done(
         count,
@@ -194,19 +205,6 @@ pub fn tick_in<'a>(
     if count == 0 {
         return refused(Refusal::NotAPlan, clock);
     }
-    if !rows_fit(
-        count,
-        &periods,
-        &firsts,
-        time,
-        clock,
-        released,
-        completed,
-        used,
-        guard,
-    ) {
-        return refused(Refusal::StateDoesNotFit, clock);
-    }
     tick_open(
         count,
         &periods,
@@ -223,55 +221,4 @@ pub fn tick_in<'a>(
         done,
         out,
     )
-}
-
-// One tick. The done list has a byte for each processor, and the release list gets one for each row.
-pub fn tick<'a>(
-    processors: u64,
-    tasks: u64,
-    period: &'a [u64],
-    deadline: &'a [u64],
-    steps: &'a [u64],
-    processor: &'a [u64],
-    priority: &'a [u64],
-    time: &'a [u64],
-    state: State,
-    done: &[u8],
-    released: &mut [u8],
-) -> Outcome
-    ensures { λ r. ⌜ _≡_ {A = TickOutcome} (record { outcome = r; released = now (released .exit) }) (calls.tick (tableOf processors tasks (now (period .entry)) (now (deadline .entry)) (now (steps .entry)) (now (processor .entry)) (now (priority .entry)) (now (time .entry))) state (now (done .entry)) (now (released .entry))) ⌝ }
-{
-    let mut own = state.released;
-    let mut completed = state.completed;
-    let mut used = state.used;
-    let mut guard = state.guard;
-    let called = tick_in(
-        processors,
-        tasks,
-        period,
-        deadline,
-        steps,
-        processor,
-        priority,
-        time,
-        state.clock,
-        &mut own,
-        &mut completed,
-        &mut used,
-        &mut guard,
-        done,
-        released,
-    );
-    let answer = called.answer;
-    let clock = called.clock;
-    Outcome {
-        answer: answer,
-        state: State {
-            clock: clock,
-            released: own,
-            completed: completed,
-            used: used,
-            guard: guard,
-        },
-    }
 }

@@ -7,7 +7,7 @@ use Rattle.bounds.proofs.rows_of.Statement.{statement}
 use Rattle.bounds.proofs.rows_of.Tie as tie
 use Rattle.bounds.proofs.rows_of.Reads as reads
 use Rattle.bounds.proofs.rows_of.Lts as lts
-use Rattle.table.proofs.plan.view_rows.Reads as view-rows-reads
+use Rattle.planned.proofs.plan.view_rows.Reads as view-rows-reads
 
 -- src/lib.rt:56:9
 slice-aggregate-view-rows : tie.Need-slice-aggregate-view-rows

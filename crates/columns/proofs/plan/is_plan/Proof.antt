@@ -4,7 +4,7 @@ use Rattle.columns.proofs.plan.is_plan.Statement.{statement}
 use Rattle.columns.proofs.plan.is_plan.Tie as tie
 use Rattle.columns.proofs.plan.is_plan.Reads as reads
 use Rattle.columns.proofs.plan.is_plan.Lts as lts
-use Rattle.table.proofs.plan.is_plan.Reads as is-plan-reads
+use Rattle.planned.proofs.plan.is_plan.Reads as is-plan-reads
 
 -- src/plan.rt:29:9
 slice-aggregate-is-plan : tie.Need-slice-aggregate-is-plan

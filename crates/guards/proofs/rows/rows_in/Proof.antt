@@ -1,5 +1,5 @@
 use Rattle.guards.specs.Rows.{countOf, rowsIn}
-use Rattle.table.specs.View.{Viewed}
+use Rattle.planned.specs.View.{Viewed}
 use mathlib.Core.Path.{_∙_, ap}
 use native.Mathlib.Omega.{arith}
 use borrow.Author.Needs.{needs}
@@ -8,7 +8,7 @@ use Rattle.guards.proofs.rows.rows_in.Tie as tie
 use Rattle.guards.proofs.rows.rows_in.Reads as reads
 use Rattle.guards.proofs.rows.rows_in.Lts as lts
 use Rattle.guards.proofs.rows.count_of.Reads as count-of-reads
-use Rattle.table.proofs.plan.view_rows.Reads as view-rows-reads
+use Rattle.planned.proofs.plan.view_rows.Reads as view-rows-reads
 
 -- src/rows.rt:41:9
 view-rows-requires : tie.Need-view-rows-requires

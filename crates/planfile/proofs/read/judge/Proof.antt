@@ -2,8 +2,8 @@
 use mathlib.Core.Path.{_≡_, sym, _∙_}
 use borrow.Author.Tests.{not-true, not-false}
 use Rattle.table.specs.Ranges.{inRange}
-use Rattle.planfile.specs.declared.line.Line.the-variants.{Value}
-use Rattle.planfile.specs.Line.{lineAt}
+use Rattle.lines.specs.declared.line.Line.the-variants.{Value}
+use Rattle.lines.specs.Line.{lineAt}
 use Rattle.planfile.specs.Due.{ownNumber}
 use Rattle.planfile.specs.DueLaws.{value-few}
 use Rattle.planfile.specs.JudgeLaws.{judge-fault, judge-range, judge-rows, judge-right}

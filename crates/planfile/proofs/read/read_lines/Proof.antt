@@ -3,7 +3,7 @@ use Prim.Native.Nat.{_-_}
 use mathlib.Core.Path.{_≡_, refl, sym, _∙_}
 use lib.ListN.{length}
 use Rattle.planfile.specs.declared.read.Judged.the-variants.{Right}
-use Rattle.planfile.specs.Line.{lineAt}
+use Rattle.lines.specs.Line.{lineAt}
 use Rattle.planfile.specs.Reading.{listsOf}
 use Rattle.planfile.specs.Reader.{judgement}
 use Rattle.planfile.specs.ReaderLaws.{Reached, reached-start, reached-same, reached-few, reached-slots, reached-behind, reached-value, reached-refused, reached-next, reached-more, found-refused, found-table}

@@ -3,7 +3,7 @@ use Prim.Native.Nat.{ℕ}
 use mathlib.Core.Path.{_≡_, sym, ap}
 use lib.ListN.{getD}
 use Rattle.table.specs.Table.{Table, tableOf}
-use Rattle.planfile.specs.KeyLaws.{none-below}
+use Rattle.lines.specs.KeyLaws.{none-below}
 use Rattle.planfile.specs.Writer.{valuesDue, valueDue}
 use Rattle.planfile.specs.WriterLaws.{value-none}
 use native.Mathlib.Omega.{arith}

@@ -4,9 +4,9 @@ use mathlib.Core.Path.{sym, _∙_, ap}
 use mathlib.Core.List.{List}
 use Rattle.text.specs.Text.{line, appended}
 use Rattle.text.specs.TextLaws.{Holds}
-use Rattle.planfile.specs.Words.{word, lineOf}
-use Rattle.planfile.specs.KeyLaws.{by-key}
-use Rattle.planfile.specs.LineLaws.{word-holds, word-form, holds-length}
+use Rattle.lines.specs.Words.{word, lineOf}
+use Rattle.lines.specs.KeyLaws.{by-key}
+use Rattle.lines.specs.LineLaws.{word-holds, word-form, holds-length}
 use native.Mathlib.Omega.{arith}
 use borrow.Author.Needs.{needs}
 use Rattle.planfile.proofs.write.write_line.Statement.{statement}

@@ -1,6 +1,6 @@
 -- `planfile::write::write_plan` meets its contract: 7, or the whole file at the front of the output.
 use mathlib.Core.Path.{sym}
-use Rattle.planfile.specs.LineLaws.{holds-length}
+use Rattle.lines.specs.LineLaws.{holds-length}
 use Rattle.planfile.specs.FileLaws.{file-most}
 use Rattle.planfile.specs.WriterLaws.{write-short, write-done}
 use native.Mathlib.Omega.{arith}

@@ -1,4 +1,5 @@
-use Rattle.ticks.specs.TickingLaws.{list-long, wrong-lowest, up-lowest, timely, stepping, ticked-made, bytes-ticked, done-wrong, done-up, done-made}
+use Rattle.ticks.specs.TickingLaws.{list-long, wrong-lowest, up-lowest, timely, stepping, ticked-made, bytes-ticked, clock-end, done-wrong, done-up, done-made}
+use Rattle.guards.specs.Moment.{momentOf}
 use Rattle.guards.specs.Lent.{stateOf}
 use Rattle.guards.specs.Rows.{planFrom}
 use Rattle.guards.specs.declared.state.State.{State}
@@ -22,10 +23,17 @@ state s = stateOf (s .args .clock) (s .args .released .now) (s .args .completed 
 abbrev plan : tie.Start → Plan
 plan s = planFrom (s .args .count) (s .args .periods .now) (s .args .firsts .now) (s .args .processor .now) (s .args .priority .now) (s .args .time .now)
 
+refused-requires : tie.Need-refused-requires
+refused-requires c κs = search needs
+
+returns : tie.Need-returns
+returns c = let s = c .before .before .before .before .before .before .before .before .before .before .before .before .before in
+    clock-end (s .args .processors) (plan s) (state s) (s .args .done .now) (s .args .out .now) (c .refused .ensures) (c .before .if1 .taken)
+
 running-rows-requires : tie.Need-running-rows-requires
-running-rows-requires c κs = let r = c .before .before .before .before .before .before .before .before .before .before .before .before .before .pre .ready in (
-  record { few = r .few; processor-long = r .processor-long; processor-most = λ i l. omega (arith, r .processor-most i l, r .processors-most) },
-  r .priority-long,
+running-rows-requires c κs = let r = c .before .before .before .before .before .before .before .before .before .before .before .before .before .before .pre .ready in (
+  record { few = r .listed .few; processor-long = r .listed .processor-long; processor-most = λ i l. omega (arith, r .listed .processor-most i l, r .listed .processors-most) },
+  r .listed .priority-long,
   r .long .released,
   r .long .completed,
 )
@@ -36,11 +44,11 @@ slice-aggregate-lowest-wrong c = search needs
 lowest-wrong-requires : tie.Need-lowest-wrong-requires
 lowest-wrong-requires c κs = search needs
 
-add-t27 : tie.Need-add-t27
-add-t27 c = search needs
+add-t28 : tie.Need-add-t28
+add-t28 c = search needs
 
-refused-requires : tie.Need-refused-requires
-refused-requires c κs = search needs
+refused-requires-2 : tie.Need-refused-requires-2
+refused-requires-2 c κs = search needs
 
 same-length : tie.Need-same-length
 same-length c = search needs
@@ -48,28 +56,28 @@ same-length c = search needs
 same-length-2 : tie.Need-same-length-2
 same-length-2 c = search needs
 
-returns : tie.Need-returns
-returns c = let s = c .before .before .before .before .before .before .before .before .before .before .before .before .before .before .before .before .before .before in
+returns-2 : tie.Need-returns-2
+returns-2 c = let s = c .before .before .before .before .before .before .before .before .before .before .before .before .before .before .before .before .before .before .before in
     let er = c .before .before .before .before .running-rows .ensures (s .args .clock) (s .args .used .now) (s .args .guard .now) in
-    let w = c .before .before .lowest-wrong .ensures ∙ wrong-lowest (rows s) (s .args .processor .now) (s .args .priority .now) (s .args .time .now) (state s) er (s .args .processors) (s .args .done .now) (s .pre .ready .processors-most) in
-    done-wrong (s .args .processors) (plan s) (state s) (s .args .done .now) (s .args .out .now) (c .refused .ensures) w (c .before .if1 .taken)
+    let w = c .before .before .lowest-wrong .ensures ∙ wrong-lowest (rows s) (s .args .processor .now) (s .args .priority .now) (s .args .time .now) (state s) er (s .args .processors) (s .args .done .now) (s .pre .ready .listed .processors-most) in
+    done-wrong (s .args .processors) (plan s) (state s) (s .args .done .now) (s .args .out .now) (c .before .before .before .before .before .before .before .if1 .left) w (c .refused2 .ensures) (c .before .if2 .taken)
 
 slice-aggregate-lowest-up : tie.Need-slice-aggregate-lowest-up
 slice-aggregate-lowest-up c = search needs
 
 lowest-up-requires : tie.Need-lowest-up-requires
-lowest-up-requires c κs = let s = c .before .before .before .before .before .before .before .before .before .before .before .before .before .before .before .before .before .before .before in
+lowest-up-requires c κs = let s = c .before .before .before .before .before .before .before .before .before .before .before .before .before .before .before .before .before .before .before .before in
     let r = s .pre .ready in
     let er = c .before .before .before .before .before .running-rows .ensures (s .args .clock) (s .args .used .now) (s .args .guard .now) in (
-      record { done-long = omega (arith, s .pre .done-long); running-long = omega (arith, r .processors-most, list-long (rows s) (s .args .processor .now) (s .args .priority .now) (s .args .time .now) (state s) er) },
-      λ i l. timely (rows s) (s .args .processor .now) (s .args .priority .now) (s .args .time .now) (state s) er r (suc i) (omega (arith, r .processors-most)),
+      record { done-long = omega (arith, s .pre .done-long); running-long = omega (arith, r .listed .processors-most, list-long (rows s) (s .args .processor .now) (s .args .priority .now) (s .args .time .now) (state s) er) },
+      λ i l. timely (rows s) (s .args .processor .now) (s .args .priority .now) (s .args .time .now) (state s) er r (suc i) (omega (arith, r .listed .processors-most)),
     )
 
-add-t34 : tie.Need-add-t34
-add-t34 c = search needs
+add-t35 : tie.Need-add-t35
+add-t35 c = search needs
 
-refused-requires-2 : tie.Need-refused-requires-2
-refused-requires-2 c κs = search needs
+refused-requires-3 : tie.Need-refused-requires-3
+refused-requires-3 c κs = search needs
 
 same-length-3 : tie.Need-same-length-3
 same-length-3 c = search needs
@@ -80,26 +88,28 @@ same-length-4 c = search needs
 same-length-5 : tie.Need-same-length-5
 same-length-5 c = search needs
 
-returns-2 : tie.Need-returns-2
-returns-2 c = let s = c .before .before .before .before .before .before .before .before .before .before .before .before .before .before .before .before .before .before .before .before .before .before in
+returns-3 : tie.Need-returns-3
+returns-3 c = let s = c .before .before .before .before .before .before .before .before .before .before .before .before .before .before .before .before .before .before .before .before .before .before .before in
     let er = c .before .before .before .before .before .before .before .before .running-rows .ensures (s .args .clock) (s .args .used .now) (s .args .guard .now) in
-    let w = c .before .before .before .before .before .before .lowest-wrong .ensures ∙ wrong-lowest (rows s) (s .args .processor .now) (s .args .priority .now) (s .args .time .now) (state s) er (s .args .processors) (s .args .done .now) (s .pre .ready .processors-most) in
-    let u = c .before .before .lowest-up .ensures ∙ up-lowest (rows s) (s .args .processor .now) (s .args .priority .now) (s .args .time .now) (state s) er (s .args .processors) (s .args .done .now) (s .pre .ready .processors-most) in
-    done-up (s .args .processors) (plan s) (state s) (s .args .done .now) (s .args .out .now) w (c .before .before .before .before .before .if1 .left) (c .refused2 .ensures) u (c .before .if2 .taken)
+    let w = c .before .before .before .before .before .before .lowest-wrong .ensures ∙ wrong-lowest (rows s) (s .args .processor .now) (s .args .priority .now) (s .args .time .now) (state s) er (s .args .processors) (s .args .done .now) (s .pre .ready .listed .processors-most) in
+    let u = c .before .before .lowest-up .ensures ∙ up-lowest (rows s) (s .args .processor .now) (s .args .priority .now) (s .args .time .now) (state s) er (s .args .processors) (s .args .done .now) (s .pre .ready .listed .processors-most) in
+    done-up (s .args .processors) (plan s) (state s) (s .args .done .now) (s .args .out .now) (c .before .before .before .before .before .before .before .before .before .before .before .if1 .left) w (c .before .before .before .before .before .if2 .left) (c .refused3 .ensures) u (c .before .if3 .taken)
 
 slice-aggregate-steps : tie.Need-slice-aggregate-steps
 slice-aggregate-steps c = search needs
 
 steps-requires : tie.Need-steps-requires
-steps-requires c κs = let s = c .before .before .before .before .before .before .before .before .before .before .before .before .before .before .before .before .before .before .before .before .before .before .before .before .before .before .before in
+steps-requires c κs = let s = c .before .before .before .before .before .before .before .before .before .before .before .before .before .before .before .before .before .before .before .before .before .before .before .before .before .before .before .before in
     let er = c .before .before .before .before .before .before .before .before .before .before .before .before .before .running-rows .ensures (s .args .clock) (s .args .used .now) (s .args .guard .now) in
-    stepping (rows s) (s .args .processor .now) (s .args .priority .now) (s .args .time .now) (state s) er (s .pre .ready) (s .args .done .now) (s .args .out .now) (s .pre)
+    stepping (rows s) (s .args .processor .now) (s .args .priority .now) (s .args .time .now) (state s) er (s .pre .ready) (s .args .done .now) (s .args .out .now) (s .pre) (c .before .before .before .before .before .before .before .before .before .before .before .before .before .before .before .before .if1 .left)
 
 add-taken : tie.Need-add-taken
-add-taken c = omega (arith, c .before .before .before .before .before .before .before .before .before .before .before .before .before .before .before .before .before .before .before .before .before .before .before .before .before .before .before .before .before .before .before .before .before .before .before .before .before .before .pre .clock-below)
+unfolding momentOf
+add-taken c = omega (arith, c .before .before .before .before .before .before .before .before .before .before .before .before .before .before .before .before .before .before .before .before .before .before .before .before .before .before .before .before .before .before .before .before .before .before .before .before .before .before .before .pre .ready .bounded .clock)
 
 add-taken-2 : tie.Need-add-taken-2
-add-taken-2 c = omega (arith, c .before .before .before .before .before .before .before .before .before .before .before .before .before .before .before .before .before .before .before .before .before .before .before .before .before .before .before .before .before .before .before .before .before .before .before .before .before .before .pre .clock-below)
+unfolding momentOf
+add-taken-2 c = omega (arith, c .before .before .before .before .before .before .before .before .before .before .before .before .before .before .before .before .before .before .before .before .before .before .before .before .before .before .before .before .before .before .before .before .before .before .before .before .before .before .before .pre .ready .bounded .clock)
 
 taken-requires : tie.Need-taken-requires
 taken-requires c κs = search needs
@@ -119,13 +129,13 @@ same-length-9 c = search needs
 same-length-10 : tie.Need-same-length-10
 same-length-10 c = search needs
 
-returns-3 : tie.Need-returns-3
-returns-3 c = let s = c .before .before .before .before .before .before .before .before .before .before .before .before .before .before .before .before .before .before .before .before .before .before .before .before .before .before .before .before .before .before .before .before .before .before .before .before .before .before .before in
+returns-4 : tie.Need-returns-4
+returns-4 c = let s = c .before .before .before .before .before .before .before .before .before .before .before .before .before .before .before .before .before .before .before .before .before .before .before .before .before .before .before .before .before .before .before .before .before .before .before .before .before .before .before .before in
     let er = c .before .before .before .before .before .before .before .before .before .before .before .before .before .before .before .before .before .before .before .before .before .before .before .before .before .running-rows .ensures (s .args .clock) (s .args .used .now) (s .args .guard .now) in
-    let w = c .before .before .before .before .before .before .before .before .before .before .before .before .before .before .before .before .before .before .before .before .before .before .before .lowest-wrong .ensures ∙ wrong-lowest (rows s) (s .args .processor .now) (s .args .priority .now) (s .args .time .now) (state s) er (s .args .processors) (s .args .done .now) (s .pre .ready .processors-most) in
-    let u = c .before .before .before .before .before .before .before .before .before .before .before .before .before .before .before .before .before .before .before .lowest-up .ensures ∙ up-lowest (rows s) (s .args .processor .now) (s .args .priority .now) (s .args .time .now) (state s) er (s .args .processors) (s .args .done .now) (s .pre .ready .processors-most) in
+    let w = c .before .before .before .before .before .before .before .before .before .before .before .before .before .before .before .before .before .before .before .before .before .before .before .lowest-wrong .ensures ∙ wrong-lowest (rows s) (s .args .processor .now) (s .args .priority .now) (s .args .time .now) (state s) er (s .args .processors) (s .args .done .now) (s .pre .ready .listed .processors-most) in
+    let u = c .before .before .before .before .before .before .before .before .before .before .before .before .before .before .before .before .before .before .before .lowest-up .ensures ∙ up-lowest (rows s) (s .args .processor .now) (s .args .priority .now) (s .args .time .now) (state s) er (s .args .processors) (s .args .done .now) (s .pre .ready .listed .processors-most) in
     let made = c .before .before .before .before .before .before .before .before .before .before .before .steps .ensures in
-    done-made (s .args .processors) (plan s) (state s) (s .args .done .now) (s .args .out .now) w (c .before .before .before .before .before .before .before .before .before .before .before .before .before .before .before .before .before .before .before .before .before .before .if1 .left) (c .taken .ensures) u (c .before .before .before .before .before .before .before .before .before .before .before .before .before .before .before .before .before .before .if2 .left)
+    done-made (s .args .processors) (plan s) (state s) (s .args .done .now) (s .args .out .now) (c .before .before .before .before .before .before .before .before .before .before .before .before .before .before .before .before .before .before .before .before .before .before .before .before .before .before .before .before .if1 .left) w (c .before .before .before .before .before .before .before .before .before .before .before .before .before .before .before .before .before .before .before .before .before .before .if2 .left) (c .taken .ensures) u (c .before .before .before .before .before .before .before .before .before .before .before .before .before .before .before .before .before .before .if3 .left)
     (made .0 ∙ ticked-made (rows s) (s .args .processor .now) (s .args .priority .now) (s .args .time .now) (state s) er (s .pre .ready) (s .args .done .now))
     (made .1 ∙ bytes-ticked (rows s) (s .args .processor .now) (s .args .priority .now) (s .args .time .now) (state s) er (s .pre .ready) (s .args .done .now) (s .args .out .now))
 
@@ -133,22 +143,24 @@ pub tick-done-spec : {M : Type 1} → statement M
 tick-done-spec =
     tie.close
     (tie.spec
+    refused-requires
+    returns
     running-rows-requires
     slice-aggregate-lowest-wrong
     lowest-wrong-requires
-    add-t27
-    refused-requires
+    add-t28
+    refused-requires-2
     same-length
     same-length-2
-    returns
+    returns-2
     slice-aggregate-lowest-up
     lowest-up-requires
-    add-t34
-    refused-requires-2
+    add-t35
+    refused-requires-3
     same-length-3
     same-length-4
     same-length-5
-    returns-2
+    returns-3
     slice-aggregate-steps
     steps-requires
     add-taken
@@ -159,4 +171,4 @@ tick-done-spec =
     same-length-8
     same-length-9
     same-length-10
-    returns-3)
+    returns-4)

@@ -1,14 +1,10 @@
-use Rattle.ticks.specs.TableLaws.{ready, tick-none, tick-unfit, tick-made}
-use Rattle.guards.specs.LentCalls.{fitsHeld, fits-held, fits-fits}
-use Rattle.guards.specs.LentLaws.{held-long, rows-fit-lent}
+use Rattle.ticks.specs.TableLaws.{listing, tick-none, tick-made}
 use Rattle.guards.specs.Lent.{stateOf}
 use Rattle.guards.specs.RowsLaws.{RowsOf, rows-in-of, no-plan, plan-rows}
 use Rattle.guards.specs.declared.state.State.{State}
 use Rattle.table.specs.Table.{Table, tableOf}
 use Rattle.facts.specs.Filled.{tab}
-use borrow.Author.Tests.{not-true, not-false}
-use mathlib.Core.Bool.{true}
-use mathlib.Core.Path.{_≡_, sym, _∙_}
+use mathlib.Core.Path.{_∙_}
 use native.Mathlib.Omega.{arith}
 use borrow.Author.Needs.{needs}
 use Rattle.ticks.proofs.tick.tick_in.Statement.{statement}
@@ -22,14 +18,10 @@ table s = tableOf (s .args .processors) (s .args .tasks) (s .args .period .now) 
 abbrev state : tie.Start → State
 state s = stateOf (s .args .clock) (s .args .released .now) (s .args .completed .now) (s .args .used .now) (s .args .guard .now)
 
--- Past the first test the table is a plan,
+-- Past the test the table is a plan.
 rows-here : (c : tie.Else1) → RowsOf (table (c .before .before .before .before .before .before .before .before .before .before .before .before .before .before .before .before .before .before)) (record { count = c .before .before .before .rows-in .result; period = c .before .before .before .rows-in .last .1 .1 .1 .1 .1 .1 .1 .1 .0; first = c .before .before .before .rows-in .last .1 .1 .1 .1 .1 .1 .1 .1 .1 .0 })
 unfolding tab
 rows-here c = plan-rows (table (c .before .before .before .before .before .before .before .before .before .before .before .before .before .before .before .before .before .before)) (c .before .before .before .rows-in .ensures ∙ rows-in-of (table (c .before .before .before .before .before .before .before .before .before .before .before .before .before .before .before .before .before .before))) (c .if1 .left)
-
--- and past the second the state fits it.
-fits-here : (c : tie.Else2) → fitsHeld (table (c .before .before .before .before .before .before .before .before .before .before .before .before .before .before .before .before .before .before .before .before .before .before .before .before .before .before)) (state (c .before .before .before .before .before .before .before .before .before .before .before .before .before .before .before .before .before .before .before .before .before .before .before .before .before .before)) ≡ true
-fits-here c = sym (rows-fit-lent (rows-here (c .before .before .before .before .before .before .before .before)) (state (c .before .before .before .before .before .before .before .before .before .before .before .before .before .before .before .before .before .before .before .before .before .before .before .before .before .before))) ∙ sym (c .before .rows-fit .ensures) ∙ not-false _ (c .if2 .left)
 
 slice-aggregate-rows-in : tie.Need-slice-aggregate-rows-in
 slice-aggregate-rows-in c = search needs
@@ -48,17 +40,14 @@ unfolding tab
 returns c = let s = c .before .before .before .before .before .before .before .before .before .before .before .before .before .before .before .before .before .before .before in
     tick-none (table s) (state s) (s .args .done .now) (s .args .out .now) (c .refused .ensures) (no-plan (table s) (c .before .before .before .before .rows-in .ensures ∙ rows-in-of (table s)) (c .before .if1 .taken))
 
-slice-aggregate-rows-fit : tie.Need-slice-aggregate-rows-fit
-slice-aggregate-rows-fit c = search needs
+slice-aggregate-tick-open : tie.Need-slice-aggregate-tick-open
+slice-aggregate-tick-open c = search needs
 
-slice-aggregate-rows-fit-2 : tie.Need-slice-aggregate-rows-fit-2
-slice-aggregate-rows-fit-2 c = search needs
+slice-aggregate-tick-open-2 : tie.Need-slice-aggregate-tick-open-2
+slice-aggregate-tick-open-2 c = search needs
 
-rows-fit-requires : tie.Need-rows-fit-requires
-rows-fit-requires c κs = search needs
-
-refused-requires-2 : tie.Need-refused-requires-2
-refused-requires-2 c κs = search needs
+tick-open-requires : tie.Need-tick-open-requires
+tick-open-requires c κs = listing (rows-here (c .before .before .before .before .before .before .before))
 
 same-length : tie.Need-same-length
 same-length c = search needs
@@ -72,40 +61,12 @@ same-length-3 c = search needs
 same-length-4 : tie.Need-same-length-4
 same-length-4 c = search needs
 
-returns-2 : tie.Need-returns-2
-returns-2 c = let s = c .before .before .before .before .before .before .before .before .before .before .before .before .before .before .before .before .before .before .before .before .before .before .before .before .before .before .before in
-    let o = rows-here (c .before .before .before .before .before .before .before .before .before) in
-    tick-unfit (table s) (state s) (s .args .done .now) (s .args .out .now) (c .refused2 .ensures) (o .plan) (sym (rows-fit-lent o (state s)) ∙ sym (c .before .before .rows-fit .ensures) ∙ not-true _ (c .before .if2 .taken))
-
-slice-aggregate-tick-open : tie.Need-slice-aggregate-tick-open
-slice-aggregate-tick-open c = search needs
-
-slice-aggregate-tick-open-2 : tie.Need-slice-aggregate-tick-open-2
-slice-aggregate-tick-open-2 c = search needs
-
-tick-open-requires : tie.Need-tick-open-requires
-tick-open-requires c κs = let s = c .before .before .before .before .before .before .before .before .before .before .before .before .before .before .before .before .before .before .before .before .before .before .before .before .before .before .before .before .before .before .before .before .before in
-    let f = fits-here (c .before .before .before .before .before .before .before) in
-    ready (rows-here (c .before .before .before .before .before .before .before .before .before .before .before .before .before .before .before)) (state s) (held-long _ (state s) (fits-held (table s) (state s) f)) (fits-fits (table s) (state s) f)
-
 same-length-5 : tie.Need-same-length-5
 same-length-5 c = search needs
 
-same-length-6 : tie.Need-same-length-6
-same-length-6 c = search needs
-
-same-length-7 : tie.Need-same-length-7
-same-length-7 c = search needs
-
-same-length-8 : tie.Need-same-length-8
-same-length-8 c = search needs
-
-same-length-9 : tie.Need-same-length-9
-same-length-9 c = search needs
-
-returns-3 : tie.Need-returns-3
-returns-3 c = let s = c .before .before .before .before .before .before .before .before .before .before .before .before .before .before .before .before .before .before .before .before .before .before .before .before .before .before .before .before .before .before .before .before .before .before .before .before .before .before .before .before .before .before .before .before in
-    tick-made (table s) (state s) (s .args .done .now) (s .args .out .now) (rows-here (c .before .before .before .before .before .before .before .before .before .before .before .before .before .before .before .before .before .before .before .before .before .before .before .before .before .before)) (fits-here (c .before .before .before .before .before .before .before .before .before .before .before .before .before .before .before .before .before .before)) (c .before .before .before .before .before .before .before .before .before .before .tick-open .ensures)
+returns-2 : tie.Need-returns-2
+returns-2 c = let s = c .before .before .before .before .before .before .before .before .before .before .before .before .before .before .before .before .before .before .before .before .before .before .before .before .before .before .before .before .before .before .before .before .before .before .before .before in
+    tick-made (table s) (state s) (s .args .done .now) (s .args .out .now) (rows-here (c .before .before .before .before .before .before .before .before .before .before .before .before .before .before .before .before .before .before)) (c .before .before .before .before .before .before .before .before .before .before .tick-open .ensures)
 
 pub tick-in-spec : {M : Type 1} → statement M
 tick-in-spec =
@@ -116,21 +77,12 @@ tick-in-spec =
     rows-in-requires
     refused-requires
     returns
-    slice-aggregate-rows-fit
-    slice-aggregate-rows-fit-2
-    rows-fit-requires
-    refused-requires-2
+    slice-aggregate-tick-open
+    slice-aggregate-tick-open-2
+    tick-open-requires
     same-length
     same-length-2
     same-length-3
     same-length-4
-    returns-2
-    slice-aggregate-tick-open
-    slice-aggregate-tick-open-2
-    tick-open-requires
     same-length-5
-    same-length-6
-    same-length-7
-    same-length-8
-    same-length-9
-    returns-3)
+    returns-2)
