@@ -2,42 +2,21 @@
 use mathlib.Core.Path.{_≡_}
 use mathlib.Core.Bool.{Bool, true, false, cond, _&&_}
 use mathlib.Core.List.{List}
-use Prim.Native.Nat.{ℕ, suc, _+_, _≤_, _<_}
+use Prim.Native.Nat.{ℕ, suc, _+_, _<_}
 use lib.Dec.{leb}
 use lib.ListN.{length}
 use lib.IntN.{ℤ, pos, _-ℤ_}
 use lib.Signed.{leZ}
 use Rattle.facts.specs.Sums.{sum}
 use Rattle.facts.specs.Tests.{all}
-use Rattle.facts.specs.Least.{Least, Unanswered}
 use Rattle.facts.specs.Filled.{filled}
 use Rattle.table.specs.declared.refusal.Refusal.{Refusal}
 use Rattle.table.specs.declared.refusal.Refusal.the-variants.{NotAPlan, NoBusyLength, TooShort}
 use Rattle.table.specs.Table.{Table, at, firstRow, rows, longEnough, isPlan}
-use Rattle.table.specs.Plan.{planOf, inForce}
-use Rattle.equations.specs.Row.{Row, work, RowBounds}
-use Rattle.equations.specs.Beside.{rowOf}
+use Rattle.table.specs.Plan.{inForce}
+pub use Rattle.busy.specs.Busy.{limit, equations, Numbers, Analysis, Stuck}
 use Rattle.bounds.specs.declared.Bounded.{Bounded}
 use Rattle.bounds.specs.declared.Bounded.the-variants.{Verdict, Refused}
-
--- The longest busy length that counts: "It must be at most 10,000,000."
-abbrev pub limit : ℕ
-limit = 10000000
-
--- The equations of the table's row r, counted from 0.
-abbrev pub equations : Table → ℕ → Row
-equations T r = rowOf (planOf T) r
-
--- A number D, M and bound for each row, counted from 0.
-pub record Numbers : Type 0 where
-  pub busy : ℕ → ℕ
-  pub instances : ℕ → ℕ
-  pub bound : ℕ → ℕ
-
--- They are the numbers of the table's rows, and every busy length is within the limit.
-pub record Analysis (T : Table) (N : Numbers) : Type 0 where
-  pub row : (r : ℕ) → r < rows T → RowBounds (equations T r) (N .busy r) (N .instances r) (N .bound r)
-  pub within : (r : ℕ) → r < rows T → N .busy r ≤ limit
 
 -- "A chain's bound is the sum of its rows' bounds." Tasks are counted from 0.
 unfoldable pub chainBound : Table → Numbers → ℕ → ℕ
@@ -84,12 +63,6 @@ filledIn T N l = record {
   chain = filled (chainBound T N) (T .tasks) (l .chain);
   slack = filled (slackOf T N) (T .tasks) (l .slack);
 }
-
--- Row r, counted from 0, is the lowest with no busy length up to the limit.
-pub record Stuck (T : Table) (r : ℕ) : Type 0 where
-  pub row : r < rows T
-  pub none : Unanswered (work (equations T r)) limit
-  pub before : (k : ℕ) → k < r → (D : ℕ) × Least (work (equations T k)) D × (D ≤ limit)
 
 -- The plan has bounds: the lists are filled with its numbers, and the answer is 1 if it is accepted, else 0.
 pub record Given (T : Table) (before after : Lists) (answer : ℕ) : Type 0 where

@@ -1,40 +1,20 @@
 -- Any two outcomes of the bounds are equal.
-use mathlib.Core.Path.{_≡_, refl, ap, sym, _∙_}
-use mathlib.Core.Bool.{Bool, true, false, cond}
-use Prim.Native.Nat.{ℕ, suc, _+_, _≤_, _<_}
-use native.Mathlib.Omega.{arith, both-ways}
-use native.Mathlib.Decide.{decLt}
-use lib.IntN.{pos, _-ℤ_}
-use lib.Signed.{leZ}
+use mathlib.Core.Path.{_≡_, ap, sym, _∙_}
+use mathlib.Core.Bool.{Bool, cond}
+use Prim.Native.Nat.{ℕ, suc, _+_, _<_}
+use native.Mathlib.Omega.{arith}
 use Rattle.facts.specs.SumsLaws.{sum-ext}
 use Rattle.facts.specs.Tests.{all}
 use Rattle.facts.specs.TestsLaws.{clash, all-ext}
-use Rattle.facts.specs.Least.{Least}
-use Rattle.facts.specs.LeastLaws.{unanswered-none}
 use Rattle.facts.specs.FilledLaws.{filled-ext}
 use Rattle.table.specs.declared.refusal.Refusal.{Refusal}
-use Rattle.table.specs.declared.refusal.Refusal.the-variants.{NotAPlan, NoBusyLength, TooShort}
-use Rattle.table.specs.Table.{Table, at, firstRow, rows, isPlan}
+use Rattle.table.specs.declared.refusal.Refusal.the-variants.{NoBusyLength}
+use Rattle.table.specs.Table.{Table, at, firstRow, rows}
 use Rattle.table.specs.PlanLaws.{first-row-suc, first-row-mono}
-use Rattle.equations.specs.Row.{Row, work, RowBounds}
-use Rattle.equations.specs.RowLaws.{row-bounds-one}
+pub use Rattle.busy.specs.BusyLaws.{Same, analysis-one, never-stuck, stuck-one}
 use Rattle.bounds.specs.declared.Bounded.{Bounded}
 use Rattle.bounds.specs.declared.Bounded.the-variants.{Verdict, Refused}
-use Rattle.bounds.specs.Bounds.{limit, equations, Numbers, Analysis, chainBound, slackOf, accepted, Lists, needed, filledIn, Stuck, Given, Refusing, no-plan, too-short, no-busy-length, Bounding}
-
--- Two tables' worth of numbers agree on the rows.
-pub record Same (T : Table) (N N′ : Numbers) : Type 0 where
-  pub busy : (r : ℕ) → r < rows T → N .busy r ≡ N′ .busy r
-  pub instances : (r : ℕ) → r < rows T → N .instances r ≡ N′ .instances r
-  pub bound : (r : ℕ) → r < rows T → N .bound r ≡ N′ .bound r
-
--- A plan has one analysis.
-pub analysis-one : {T : Table} {N N′ : Numbers} → Analysis T N → Analysis T N′ → Same T N N′
-analysis-one a b = record {
-  busy = λ r l. row-bounds-one (a .row r l) (b .row r l) .0;
-  instances = λ r l. row-bounds-one (a .row r l) (b .row r l) .1;
-  bound = λ r l. row-bounds-one (a .row r l) (b .row r l) .2;
-}
+use Rattle.bounds.specs.Bounds.{Numbers, chainBound, slackOf, accepted, Lists, filledIn, Given, Refusing, no-plan, too-short, no-busy-length, Bounding}
 
 -- Step s of task i is one of the table's rows.
 pub step-row : (T : Table) (i s : ℕ) → i < T .tasks → s < at (T .steps) i → firstRow T i + s < rows T
@@ -58,24 +38,6 @@ module _ {T : Table} {N N′ : Numbers} (e : Same T N N′) where
   unfolding filledIn
   filled-same l =
       rw (filled-ext (N .busy) (N′ .busy) (rows T) (l .busy) (e .busy), filled-ext (N .instances) (N′ .instances) (rows T) (l .instances) (e .instances), filled-ext (N .bound) (N′ .bound) (rows T) (l .bound) (e .bound), filled-ext (chainBound T N) (chainBound T N′) (T .tasks) (l .chain) chain-same, filled-ext (slackOf T N) (slackOf T N′) (T .tasks) (l .slack) slack-same)
-
--- A plan with an analysis has no row without a busy length,
-pub never-stuck : {T : Table} {N : Numbers} {r : ℕ} → Analysis T N → Stuck T r → ⊥
-never-stuck {T} {N} {r} a s = unanswered-none (s .none) (a .row r (s .row) .busy) (a .within r (s .row))
-
--- and there is one lowest row without.
-half : {T : Table} {r k : ℕ} → Stuck T r → Stuck T k → k < r → ⊥
-half {T} {r} {k} s u l =
-    let w : (D : ℕ) × Least (work (equations T k)) D × (D ≤ limit) = s .before k l in
-    unanswered-none (u .none) (w .1) (w .2)
-
-pub stuck-one : {T : Table} {r k : ℕ} → Stuck T r → Stuck T k → r ≡ k
-stuck-one {T} {r} {k} s u = go (decLt k r) (decLt r k)
-  where
-    go : Dec (k < r) → Dec (r < k) → r ≡ k
-    go (yes h) d = absurd (half s u h)
-    go (no h) (yes g) = absurd (half u s g)
-    go (no h) (no g) = omega arith
 
 refusal-one : {T : Table} {before : Lists} {r r′ : Refusal} → Refusing T before r → Refusing T before r′ → r ≡ r′
 refusal-one (no-plan e n) (no-plan e′ n′) = e ∙ sym e′

@@ -5,15 +5,12 @@ use Prim.Native.Nat.{ℕ, _≤_, _<_}
 use lib.ListN.{length}
 use Rattle.facts.specs.Sums.{sum}
 use Rattle.table.specs.Table.{Table, at, tableOf, rows}
+use Rattle.busy.specs.Rows.{numbersOf}
 use Rattle.bounds.specs.Bounds.{Numbers}
 
 -- A table's tasks without its rows: bounds and slacks of chains read no more.
 abbrev pub tasksOf : ℕ → List ℕ → List ℕ → List ℕ → Table
 tasksOf tasks period deadline steps = tableOf 0 tasks period deadline steps [] [] []
-
--- The numbers of the rows, from their lists.
-abbrev pub numbersOf : List ℕ → List ℕ → List ℕ → Numbers
-numbersOf busy instances bound = record { busy = at busy; instances = at instances; bound = at bound }
 
 -- The bounds alone: chains read no more.
 abbrev pub boundsOf : List ℕ → Numbers

@@ -2,23 +2,17 @@
 // chain, and whether the plan is accepted. `bound` is all that is public.
 
 mod chains;
-mod ends;
-mod level;
-mod rows;
 
 use crate::chains::fill_chains;
-use crate::level::zeros;
-use crate::rows::fill_rows;
-use crate::rows::row_numbers;
+use busy::Numbered;
+use busy::row_bounds;
 use planned::plan::View;
 use planned::plan::view_rows;
 use table::refusal::Refusal;
 ghost use mathlib.Core.Path.{_≡_};
-ghost use Prim.Native.Nat.{ℕ, _≤_};
-ghost use lib.ListN.{length};
 ghost use Rattle.table.specs.Table.{tableOf};
 ghost use Rattle.bounds.specs.Bounds.{Bounding, listsOf};
-ghost use Rattle.bounds.specs.Rows.{Viewing, neededFor};
+ghost use Rattle.bounds.specs.Room.{neededFor, rowsIn};
 
 // What the bounds answer.
 pub enum Bounded {
@@ -27,7 +21,7 @@ pub enum Bounded {
     Refused(Refusal),
 }
 
-// How many rows the table's plan has, each row's period in `periods`; 0 if the table is no plan.
+// How many rows the table's plan has; 0 if the table is no plan.
 fn rows_of(
     processors: u64,
     tasks: u64,
@@ -37,11 +31,10 @@ fn rows_of(
     processor: &[u64],
     priority: &[u64],
     time: &[u64],
-    periods: &mut [u64],
 ) -> u64
-    requires { ⌜ length (now periods) ≡ 128 ⌝ }
-    ensures { λ r. ⌜ Viewing (tableOf processors tasks (now (period .entry)) (now (deadline .entry)) (now (steps .entry)) (now (processor .entry)) (now (priority .entry)) (now (time .entry))) (now (periods .entry)) (now (periods .exit)) r ⌝ }
+    ensures { λ r. ⌜ r ≡ rowsIn (tableOf processors tasks (now (period .entry)) (now (deadline .entry)) (now (steps .entry)) (now (processor .entry)) (now (priority .entry)) (now (time .entry))) ⌝ }
 {
+    let mut periods = [0u64; 128];
     let mut firsts = [false; 128];
     let viewed = view_rows(
         processors,
@@ -52,7 +45,7 @@ fn rows_of(
         processor,
         priority,
         time,
-        periods,
+        &mut periods,
         &mut firsts,
     );
     let View::Rows(rows) = viewed else {
@@ -112,7 +105,6 @@ pub fn bound(
 ) -> Bounded
     ensures { λ r. ⌜ Bounding (tableOf processors tasks (now (period .entry)) (now (deadline .entry)) (now (steps .entry)) (now (processor .entry)) (now (priority .entry)) (now (time .entry))) (listsOf (now (busy .entry)) (now (instances .entry)) (now (bounds .entry)) (now (chains .entry)) (now (slack .entry))) (listsOf (now (busy .exit)) (now (instances .exit)) (now (bounds .exit)) (now (chains .exit)) (now (slack .exit))) r ⌝ }
 {
-    let mut periods = zeros();
     let rows = rows_of(
         processors,
         tasks,
@@ -122,34 +114,32 @@ pub fn bound(
         processor,
         priority,
         time,
-        &mut periods,
     );
     if rows == 0 {
         return Bounded::Refused(Refusal::NotAPlan);
     }
-    let count = rows as usize;
-    let chained = tasks as usize;
     let short = room_needed(rows, tasks, busy, instances, bounds, chains, slack);
     if short != 0 {
         return Bounded::Refused(Refusal::TooShort(short));
     }
-    let mut spans = zeros();
-    let mut counts = zeros();
-    let mut worst = zeros();
-    let done = row_numbers(
-        count,
-        &periods,
+    match row_bounds(
+        processors,
+        tasks,
+        period,
+        deadline,
+        steps,
         processor,
         priority,
         time,
-        &mut spans,
-        &mut counts,
-        &mut worst,
-    );
-    if done < count {
-        return Bounded::Refused(Refusal::NoBusyLength(done as u64 + 1));
+        busy,
+        instances,
+        bounds,
+    ) {
+        Numbered::Rows(_) => {
+            let chained = tasks as usize;
+            let accepted = fill_chains(chained, period, deadline, steps, bounds, chains, slack);
+            Bounded::Verdict(accepted)
+        }
+        Numbered::Refused(refusal) => Bounded::Refused(refusal),
     }
-    fill_rows(count, &spans, &counts, &worst, busy, instances, bounds);
-    let accepted = fill_chains(chained, period, deadline, steps, &worst, chains, slack);
-    Bounded::Verdict(accepted)
 }

@@ -1,27 +1,20 @@
 -- What the plan program prints of a file (document 01, "One plan and its report").
 use Prim.Native.Nat.{ℕ, suc, _≤_, _<_}
 use mathlib.Core.Path.{_≡_}
-use mathlib.Core.List.{List, [], _∷_, _++_}
+use mathlib.Core.List.{List, _++_}
 use lib.ListN.{length}
 use Rattle.table.specs.declared.refusal.Refusal.{Refusal}
 use Rattle.table.specs.declared.refusal.Refusal.the-variants.{FileTooLong, NoBusyLength}
 use Rattle.table.specs.Refusals.{numberOf, placeOf}
 use Rattle.table.specs.Table.{Table}
-use Rattle.text.specs.Text.{line}
+use Rattle.text.specs.Text.{bytesOf, line}
 use Rattle.planfile.specs.Reading.{table, refusal, held, mostBytes}
 use Rattle.bounds.specs.Bounds.{Numbers, Analysis, Stuck}
 use Rattle.report.specs.Report.{reportText}
 
--- The words `refused` and `at`, as bytes.
-abbrev pub refusedWord : List ℕ
-refusedWord = 114 ∷ 101 ∷ 102 ∷ 117 ∷ 115 ∷ 101 ∷ 100 ∷ []
-
-abbrev pub atWord : List ℕ
-atWord = 97 ∷ 116 ∷ []
-
 -- "Or two lines `refused=` and `at=`": a refusal's number and place.
 unfoldable pub refusalText : Refusal → List ℕ
-refusalText r = line refusedWord (numberOf r) ++ line atWord (placeOf r)
+refusalText r = line (bytesOf "refused") (numberOf r) ++ line (bytesOf "at") (placeOf r)
 
 -- The text that is printed: 1, 2, 3 or 4 of a file that is not read, 6 of a plan that has no bounds, else the plan's report.
 pub data Printed (file text : List ℕ) : Type 0 where

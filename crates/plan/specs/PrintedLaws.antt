@@ -15,7 +15,7 @@ use Rattle.table.specs.declared.refusal.Refusal.the-variants.{NoBusyLength}
 use Rattle.table.specs.Refusals.{numberOf, placeOf}
 use Rattle.table.specs.Table.{Table, isPlan}
 use Rattle.table.specs.TableLaws.{checked}
-use Rattle.text.specs.Text.{line}
+use Rattle.text.specs.Text.{bytesOf, line}
 use Rattle.text.specs.TextLaws.{length-line}
 use Rattle.text.specs.NumeralLaws.{decimal-most}
 use Rattle.planfile.specs.Reading.{table, held}
@@ -30,7 +30,7 @@ use Rattle.report.specs.FiguresLaws.{figures-small, report-one}
 use Rattle.report.specs.FileReportLaws.{held-refusal, held-table, held-either}
 use Rattle.report.specs.Reporting as reporting
 use Rattle.report.specs.Reporting.{ReportOutcome, delivered, FileReported}
-use Rattle.plan.specs.Printed.{refusedWord, atWord, refusalText, Printed, too-long, unread, no-busy-length, given}
+use Rattle.plan.specs.Printed.{refusalText, Printed, too-long, unread, no-busy-length, given}
 
 -- The same of equal tables.
 stuck-as : {S T : Table} {row : ℕ} → S ≡ T → Stuck S row → Stuck T row
@@ -71,9 +71,9 @@ unfolding refusalText
 refusal-few r =
     omega (
       arith,
-      length-append (line refusedWord (numberOf r)) (line atWord (placeOf r)),
-      length-line refusedWord (numberOf r),
-      length-line atWord (placeOf r),
+      length-append (line (bytesOf "refused") (numberOf r)) (line (bytesOf "at") (placeOf r)),
+      length-line (bytesOf "refused") (numberOf r),
+      length-line (bytesOf "at") (placeOf r),
       decimal-most (numberOf r),
       decimal-most (placeOf r),
     )

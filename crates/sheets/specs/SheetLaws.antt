@@ -18,7 +18,7 @@ use Rattle.planfile.specs.Reading.{Lists, ReadOutcome, read}
 use Rattle.planfile.specs.Writing.{WriteOutcome}
 use Rattle.planfile.specs.Answered.{tableIn}
 use Rattle.planfile.specs.ReadWriteLaws.{read-then-write, wrote}
-use Rattle.bounds.specs.Rows.{Viewing, plan, none}
+use Rattle.busy.specs.Rows.{Viewing, plan, none}
 use Rattle.columns.specs.declared.columns.Columns.{Columns}
 use Rattle.columns.specs.Columns.{blankOf}
 use Rattle.sheets.specs.declared.sheet.Sheet.{Sheet}

@@ -1,6 +1,6 @@
 use mathlib.Core.Path.{sym}
 use Rattle.bounds.specs.Bounds.{listsOf}
-use Rattle.bounds.specs.BoundingLaws.{needed-busy, needed-instances, needed-bound, needed-chain, needed-slack, needed-none}
+use Rattle.bounds.specs.RoomLaws.{needed-busy, needed-instances, needed-bound, needed-chain, needed-slack, needed-none}
 use native.Mathlib.Omega.{arith}
 use borrow.Author.Needs.{needs}
 use Rattle.bounds.proofs.room_needed.Statement.{statement}

@@ -2,9 +2,9 @@
 use mathlib.Core.Path.{_∙_, ap}
 use Prim.Native.Nat.{ℕ}
 use Rattle.table.specs.Refusals.{numberOf, placeOf}
-use Rattle.text.specs.Text.{line, appended}
+use Rattle.text.specs.Text.{bytesOf, line, appended}
 use Rattle.text.specs.TextLaws.{appended-then}
-use Rattle.plan.specs.Printed.{refusalText, refusedWord, atWord}
+use Rattle.plan.specs.Printed.{refusalText}
 use borrow.Author.Needs.{needs}
 use Rattle.plan.proofs.print_refusal.Statement.{statement}
 use Rattle.plan.proofs.print_refusal.Tie as tie
@@ -34,9 +34,9 @@ returns : tie.Need-returns
 unfolding refusalText
 returns c =
     let a = c .before .before .before .before .before .before .before .before .before .before .before .before .before .args in
-    appended-then (line refusedWord (numberOf (a .refusal))) (line atWord (placeOf (a .refusal))) (a .out .now) 0
-    (c .before .before .before .before .before .before .before .before .append-line .ensures ∙ ap (λ (v : ℕ). appended (line refusedWord v) (a .out .now) 0) (c .before .before .before .before .before .before .before .before .before .number-of .ensures))
-    (c .before .before .append-line2 .ensures ∙ ap (λ (v : ℕ). appended (line atWord v) (c .before .before .before .before .before .before .before .before .append-line .last .0) (c .before .before .before .before .before .before .before .before .append-line .result)) (c .before .before .before .place-of .ensures))
+    appended-then (line (bytesOf "refused") (numberOf (a .refusal))) (line (bytesOf "at") (placeOf (a .refusal))) (a .out .now) 0
+    (c .before .before .before .before .before .before .before .before .append-line .ensures ∙ ap (λ (v : ℕ). appended (line (bytesOf "refused") v) (a .out .now) 0) (c .before .before .before .before .before .before .before .before .before .number-of .ensures))
+    (c .before .before .append-line2 .ensures ∙ ap (λ (v : ℕ). appended (line (bytesOf "at") v) (c .before .before .before .before .before .before .before .before .append-line .last .0) (c .before .before .before .before .before .before .before .before .append-line .result)) (c .before .before .before .place-of .ensures))
 
 pub print-refusal-spec : {M : Type 1} → statement M
 print-refusal-spec =

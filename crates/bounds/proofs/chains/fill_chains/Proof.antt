@@ -7,7 +7,7 @@ use Rattle.facts.specs.FilledLaws.{filled-none, filled-more}
 use Rattle.table.specs.Table.{Table, firstRow}
 use Rattle.table.specs.Plan.{inForce}
 use Rattle.bounds.specs.Bounds.{Numbers, chainBound, slackOf}
-use Rattle.bounds.specs.General.{filled-to}
+use Rattle.busy.specs.General.{filled-to}
 use Rattle.bounds.specs.SlackLaws.{word-less}
 use Rattle.bounds.specs.Chains.{tasksOf, boundsOf}
 use Rattle.bounds.specs.ChainsLaws.{verdictTo, verdict-none, verdict-late, verdict-kept, verdict-all, first-none, first-more, chain-rows, in-force-small, chain-is, slack-is}

@@ -1,5 +1,5 @@
 use mathlib.Core.Path.{refl}
-use Rattle.bounds.specs.RowsLaws.{viewing-rows, viewing-none}
+use Rattle.busy.specs.RowsLaws.{viewing-rows, viewing-none}
 use Rattle.sheets.specs.SheetLaws.{rows-counted}
 use borrow.Author.Needs.{needs}
 use Rattle.sheets.proofs.sheet.count_rows.Statement.{statement}

@@ -1,0 +1,13 @@
+pub mod General
+pub mod Busy
+pub mod BusyLaws
+pub mod Collected
+pub mod CollectedLaws
+pub mod Climb
+pub mod ClimbLaws
+pub mod Level
+pub mod LevelLaws
+pub mod Rows
+pub mod RowsLaws
+pub mod Numbering
+pub mod NumberingLaws
