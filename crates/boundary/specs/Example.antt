@@ -9,7 +9,7 @@ use Rattle.facts.specs.Sums.{sum, sumIf}
 use Rattle.facts.specs.Tests.{all, lowest}
 use Rattle.facts.specs.Filled.{tab}
 use Rattle.table.specs.Ranges.{ranges, rangeOf, inRange}
-use Rattle.table.specs.Table.{Table, at, firstRow, rows, taskRight, rowRight, longEnough, tasksRight, rowsRight, isPlan}
+use Rattle.table.specs.Table.{Table, at, firstRow, rows, entryRight, longEnough, entriesRight, isPlan}
 use Rattle.table.specs.Plan.{taskOf, cost, planOf}
 use Rattle.planfile.specs.File.{fileOf}
 use Rattle.planfile.specs.Reading.{Held, held, laidOver}
@@ -35,7 +35,7 @@ use Rattle.boundary.specs.FilePromise.{file-held, table-laid, file-promi
 
 -- Document 01's file holds document 01's plan.
 paper-file : held (fileOf paperPlan) ≡ Held.table paperPlan
-unfolding paperPlan trimmed isPlan inRange rangeOf ranges tasksRight taskRight rowsRight rowRight longEnough rows firstRow all sum
+unfolding paperPlan trimmed isPlan inRange rangeOf ranges entriesRight entryRight longEnough rows firstRow all sum
 paper-file = reads-back paperPlan refl
 
 -- Read into any list of the layout's length, with a fresh start on any state list and any calls, every instance of task 2
@@ -57,7 +57,7 @@ record RunOfTask2 (T : Table) (any : State) : Type 0 where
   completed-are : at (after T (arrive T (after T (freshStart T any .state) (Call.arrival 1 ∷ [])) 2 .state) fullTimes .completed) (lastRow T 1) ≡ 0
 
 computed : (any : State) → RunOfTask2 S any
-unfolding paperPlan fullTimes laidOver outcomeOf isTaken after ticksBy ticksTaken lastRow freshStart hasTask arrive isDone wrongDone usedUp releasedByte tick firstFits laterFits rowFits fits start arrived worked idle opened due letGo beforeRelease ticked isOpen better best running runs momentOf stateWith taskOf cost planOf firstRow rows taskRight rowRight longEnough tasksRight rowsRight isPlan ranges rangeOf inRange tab all lowest sum sumIf
+unfolding paperPlan fullTimes laidOver outcomeOf isTaken after ticksBy ticksTaken lastRow freshStart hasTask arrive isDone wrongDone usedUp releasedByte tick firstFits laterFits rowFits fits start arrived worked idle opened due letGo beforeRelease ticked isOpen better best running runs momentOf stateWith taskOf cost planOf firstRow rows entryRight longEnough entriesRight isPlan ranges rangeOf inRange tab all lowest sum sumIf
 computed any = record { taken = refl; ticks-are = refl; released-are = refl; completed-are = refl }
 
 -- So the bound of 6 is reached on byte lists too: with one tick less the promise would be false.

@@ -1,7 +1,7 @@
 -- The climb to the busy length of rows gathered side by side, step by step.
 use mathlib.Core.Path.{_≡_, refl, ap, sym, _∙_}
 use mathlib.Core.Bool.{Bool, true, false, cond, not, _&&_}
-use mathlib.Core.List.{List}
+use mathlib.Core.List.{List, []}
 use Prim.Native.Nat.{ℕ, zero, suc, max, min, _+_, _*_, _-_, _≤_, _<_}
 use native.Mathlib.Nat.{mul-le-mul-right, mul-le-mul-left, mul-le-mul, add-mul}
 use native.Mathlib.Omega.{arith, both-ways, by-contra}
@@ -9,6 +9,8 @@ use native.Mathlib.Decide.{decLe, decLt}
 use lib.Dec.{eqb}
 use lib.ListN.{length, replicate, set, length-set}
 use lib.Seq.{getD-set-same}
+use mir.Syntax.{w64}
+use mir.Val.{Fits}
 use borrow.Author.Tests.{eqb-true, eqb-false, eq-eqb, ne-eqb}
 use borrow.Author.Count.{below-more as more-below}
 use Rattle.facts.specs.Sums.{sum, sumIf}
@@ -322,6 +324,36 @@ module _ {n : ℕ} {period cost : List ℕ} (ok : Ranged n period cost) where
       let up : t ≤ workOf n period cost t = below-rises (workOf-rising any) (c .pos) (c .below) in
       by-contra (suc t) w (λ b. omega (arith, c .work-is, up, d .least t (c .pos) (omega (arith, c .work-is, up))))
 
+-- A turn of the climb past the ends of the instances, where D is the busy length.
+module _
+    {n tied t w D : ℕ} {period cost due later begin best : List ℕ} (ok : Ranged n period cost) (h : tied ≤ n) (any : 0 < n)
+    (d : Least (workOf n period cost) D) (most : D ≤ 10000000) (c : Climbing n tied t t w period cost due later begin best) (l : t < D) where
+  pub turn-sought : Sought tied t w cost later begin
+  turn-sought = climb-sought ok h c (climb-left ok any c d l)
+
+  module _ {later′ begin′ best′ : List ℕ} {next : ℕ} (s : Settled tied t w period cost later begin best later′ begin′ best′ next) where
+    searched : Climbing n tied t next w period cost due later′ begin′ best′
+    searched = climb-settle ok h any c (climb-left ok any c d l) s
+
+    pub turn-within : next ≤ D
+    turn-within = climb-within ok searched d
+
+    pub turn-clock : next ≤ 10000000
+    turn-clock = omega (arith, turn-within)
+
+    pub turn-falls : D - next < D - t
+    turn-falls = omega (arith, s .past)
+
+    pub turn-later : (i : ℕ) → i < n → at later′ i ≤ 10000000000000
+    turn-later = climb-small ok searched (omega arith) .1
+
+    module _ {due″ later″ : List ℕ} {fresh : ℕ} (a : Advanced n next period cost due later′ due″ later″ fresh) where
+      pub turn-next : Climbing n tied next next (w + fresh) period cost due″ later″ begin′ best′
+      turn-next = climb-advance ok h searched a
+
+      pub turn-fits : Fits w64 (w + fresh)
+      turn-fits = omega (arith, climb-small ok turn-next turn-clock .0)
+
 nothing-in : (n i : ℕ) → at (replicate n 0) i ≡ 0
 nothing-in zero i = refl
 nothing-in (suc n) zero = refl
@@ -372,6 +404,54 @@ pub came-small : {x p c v : ℕ} → v ≡ ceil x p → 0 < p → x ≤ 10000000
 came-small {x} {p} {c} {v} e pp h l =
     rw e
     (omega (arith, mul-le-mul (ceil-le {x = x} {p = p} {j = 10000000} pp (omega (arith, mul-le-mul-left 10000000 pp))) l))
+
+pub came-fits : {x p c v : ℕ} → v ≡ ceil x p → 0 < p → x ≤ 10000000 → c ≤ 1000000 → Fits w64 (v * c)
+came-fits e pp h l = omega (arith, came-small e pp h l)
+
+pub due-fits : {t d p v : ℕ} → v ≡ ceil (t - d) p → d < t → t ≤ 10000000 → 0 < p → p ≤ 1000000 → Fits w64 (d + v * p)
+due-fits {t} {d} e l h pp m = let k : t - d ≤ 10000000 = omega arith in omega (arith, came-small e pp k m)
+
+-- The loop over the n rows stands at row i.
+abbrev pub Advancing : ℕ → ℕ → List ℕ → List ℕ → List ℕ → List ℕ → ℕ → List ℕ → List ℕ → ℕ → Type 0
+Advancing n t period cost due later i due′ later′ fresh =
+    (i ≤ n) × (length due′ ≡ length due) × (length later′ ≡ length later) × Advanced i t period cost due later due′ later′ fresh
+    × (fresh ≤ i * 10000000000000)
+
+module _
+    {n t i fresh : ℕ} {period cost due later due′ later′ : List ℕ} (ok : Ranged n period cost) (h : t ≤ 10000000) (ld : n ≤ length due)
+    (ll : n ≤ length later) (l : i < n) (a : Advancing n t period cost due later i due′ later′ fresh) where
+  pub later-fits :
+      {v : ℕ} → ((j : ℕ) → j < n → at later j ≤ 10000000000000) → v ≡ ceil (t - at due′ i) (at period i)
+      → Fits w64 (at later′ i + v * at cost i)
+  later-fits {v} m e =
+      let came : v * at cost i ≤ 10000000000000 = came-small e (ok .period-least i l) (omega arith) (ok .cost-most i l) in
+      omega (arith, came, later-at-first t period cost due later (a .3), m i l)
+
+  pub fresh-fits : {v : ℕ} → v ≡ ceil (t - at due′ i) (at period i) → Fits w64 (fresh + v * at cost i)
+  fresh-fits {v} e =
+      let came : v * at cost i ≤ 10000000000000 = came-small e (ok .period-least i l) (omega arith) (ok .cost-most i l) in
+      omega (arith, came, a .4, ok .few)
+
+  pub advancing-yes :
+      {v : ℕ} → v ≡ ceil (t - at due′ i) (at period i) → {due″ later″ : List ℕ} {fresh″ : ℕ}
+      → due″ ≡ set due′ i (at due′ i + v * at period i) → later″ ≡ set later′ i (at later′ i + v * at cost i) → fresh″ ≡ fresh + v * at cost i
+      → Advancing n t period cost due later (i + 1) due″ later″ fresh″
+  advancing-yes {v} e ed el ef =
+      let came : v * at cost i ≤ 10000000000000 = came-small e (ok .period-least i l) (omega arith) (ok .cost-most i l) in
+      rw (ed, el, ef)
+      (omega arith, simp length-set (a .1), simp length-set (a .2), advanced-yes t period cost due later (a .3) v (omega arith) (omega arith) e, omega (arith, came, a .4))
+
+  pub advancing-no :
+      t ≤ at due′ i → {due″ later″ : List ℕ} {fresh″ : ℕ} → due″ ≡ due′ → later″ ≡ later′ → fresh″ ≡ fresh
+      → Advancing n t period cost due later (i + 1) due″ later″ fresh″
+  advancing-no k ed el ef =
+      rw (ed, el, ef)
+      (omega arith, a .1, a .2, advanced-no t period cost due later (a .3) (omega arith) (omega arith) (ok .period-least i l) k, omega (arith, a .4))
+
+pub advanced-all :
+    {n t i fresh : ℕ} {period cost due later due′ later′ : List ℕ} → n ≤ i → Advancing n t period cost due later i due′ later′ fresh
+    → Advanced n t period cost due later due′ later′ fresh
+advanced-all {n} {t} {i} h a = let e : i ≡ n = omega (arith, a .0) in rw e at (a .3)
 
 -- The lesser of two numbers.
 lesser-left : (n a b : ℕ) → n ≡ min a b → n ≤ a
@@ -515,3 +595,14 @@ module _ {n : ℕ} {period cost : List ℕ} (ok : Ranged n period cost) (any : 0
       {t w limit : ℕ} {due later begin best : List ℕ} → Climbing n 0 t t w period cost due later begin best → limit < w
       → Unanswered (workOf n period cost) limit
   climb-past c h = below-past (workOf-rising ok any) (climb-on c .below) h
+
+  -- Turns of the loop that finds it.
+  pub span-first :
+      {w : ℕ} {due later due′ later′ : List ℕ} → Begun n period cost due later due′ later′ w
+      → Climbing n 0 1 1 w period cost due′ later′ [] []
+  span-first b = climb-first ok 0 (omega arith) b (λ i l. absurd (omega arith)) (λ i l. absurd (omega arith))
+
+  pub span-next :
+      {t w fresh : ℕ} {due later due′ later′ : List ℕ} → Climbing n 0 t t w period cost due later [] []
+      → Advanced n w period cost due later due′ later′ fresh → Climbing n 0 w w (w + fresh) period cost due′ later′ [] []
+  span-next c a = climb-advance ok (omega arith) (climb-on c) a

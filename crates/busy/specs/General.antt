@@ -6,12 +6,58 @@ use native.Mathlib.Omega.{arith, both-ways}
 use native.Mathlib.Decide.{decLe}
 use mathlib.Core.List.{List}
 use lib.ListN.{length, getD, set}
+use mir.Syntax.{w64}
+use mir.Val.{Fits}
 use Rattle.facts.specs.Filled.{filled}
 use Rattle.facts.specs.FilledLaws.{getD-rest, filled-more, filled-keep}
 use Rattle.facts.specs.Rounding.{ceil}
 use Rattle.facts.specs.RoundingLaws.{ceil-le, le-ceil, ceil-tight, ceil-count}
 use Rattle.facts.specs.Least.{Least, Unanswered}
 use Rattle.facts.specs.LeastLaws.{Below}
+
+-- What fits into a list fits into one of the same length.
+pub as-long : {n a b : ℕ} → b ≡ a → n ≤ a → n ≤ b
+as-long e h = omega arith
+
+pub as-many : {m n l : ℕ} → m ≤ n → n ≤ l → m ≤ l
+as-many h k = omega arith
+
+-- A place below n can be read where n entries are; the place's bytes can be counted.
+pub place-in : {i n a : ℕ} → i < n → n ≤ a → i < a
+place-in h k = omega arith
+
+pub place-still : {i n a b : ℕ} → i < n → n ≤ a → b ≡ a → i < b
+place-still h k e = omega arith
+
+pub place-fits : {i n : ℕ} → i < n → n ≤ 128 → Fits w64 (i * 8)
+place-fits h few = omega arith
+
+-- The same of a list with 128 entries.
+pub room-in : {i a b : ℕ} → i < 128 → b ≡ a → a ≡ 128 → i < b
+room-in h e z = omega arith
+
+pub room-fits : {i : ℕ} → i < 128 → Fits w64 (i * 8)
+room-fits h = omega arith
+
+pub room-next : {i : ℕ} → i < 128 → Fits w64 (i + 1)
+room-next h = omega arith
+
+pub place-next : {i n : ℕ} → i < n → n ≤ 128 → Fits w64 (i + 1)
+place-next h few = omega arith
+
+-- What is left of a count falls with each step.
+pub left-falls : {i n : ℕ} → i < n → n - (i + 1) < n - i
+left-falls h = omega arith
+
+pub all-of : {i n : ℕ} → i ≤ n → n ≤ i → i ≡ n
+all-of h k = omega arith
+
+-- The ticks from a to b.
+pub gap-some : {a b : ℕ} → a < b → 0 < b - a
+gap-some h = omega arith
+
+pub gap-most : {a b m : ℕ} → a < b → b ≤ m → b - a ≤ m
+gap-most h k = omega arith
 
 -- What a larger function's search has passed, a smaller one's has.
 pub below-more : {f g : ℕ → ℕ} {t : ℕ} → ((u : ℕ) → f u ≤ g u) → Below f t → Below g t

@@ -133,3 +133,13 @@ pub record Analysed (P : Plan) (busy instances bound : List ℕ) (done : ℕ) : 
 pub record Partly (P : Plan) (busy instances bound : List ℕ) (row : ℕ) : Type 0 where
   pub done : (k : ℕ) → k < row → Solved P busy instances bound k
   pub each : (k : ℕ) → k < P .rows → (at busy k ≡ 0) ⊎ Solved P busy instances bound k
+
+-- The same with the sizes of the lists: those of the numbers are what they were at first.
+pub record Going
+    (P : Plan) (busy₀ instances₀ bound₀ busy instances bound index period cost due later begin best : List ℕ) (row : ℕ) : Type 0 where
+  pub most : row ≤ P .rows
+  pub busy-size : length busy ≡ length busy₀
+  pub instances-size : length instances ≡ length instances₀
+  pub bound-size : length bound ≡ length bound₀
+  pub partly : Partly P busy instances bound row
+  pub lent : Lent index period cost due later begin best

@@ -7,7 +7,7 @@ use native.Mathlib.Omega.{arith}
 use native.Mathlib.Nat.{add-assoc, add-zero}
 use native.Mathlib.Decide.{decLt, decLe, ℕ-discrete}
 use lib.Dec.{ltb, leb, eqb}
-use lib.ListN.{length, getD, set}
+use lib.ListN.{length, length-set, getD, set}
 use borrow.Author.Tests.{eq-eqb, ne-eqb, eqb-true, eqb-false, lt-ltb, le-ltb, le-leb, lt-leb, ltb-true}
 use Rattle.facts.specs.Sums.{sum, sumIf}
 use Rattle.facts.specs.SumsLaws.{sum-part, sum-none, sumIf-none, sum-ext, sum-add}
@@ -25,7 +25,7 @@ use Rattle.busy.specs.Collected.{countIf, collected, scattered}
 use Rattle.busy.specs.CollectedLaws.{count-apart, count-yes, count-no, collected-none, collected-yes, collected-no, length-collected, collected-kept, Holds, held, found, sum-collected, Lies, missed, hit, lies}
 use Rattle.busy.specs.Climb.{Ranged, workOf, gatheredRow}
 use Rattle.busy.specs.ClimbLaws.{work-gathered}
-use Rattle.busy.specs.Level.{Level, levelBy, Roomy, Lent, planBy, Usable, chosen, chosenIn, gathered, Sound, levelWork, levelRow, LevelOf, TiedBounds, Laid, Solved, Analysed, Partly}
+use Rattle.busy.specs.Level.{Level, levelBy, Roomy, Lent, planBy, Usable, chosen, chosenIn, gathered, Sound, levelWork, levelRow, LevelOf, TiedBounds, Laid, Solved, Analysed, Partly, Going}
 use Rattle.busy.specs.Busy.{limit}
 use borrow.Author.Count.{below-more as more-below}
 use mathlib.Core.Logic.{_⊎_, inl, inr}
@@ -62,6 +62,36 @@ module _ (b : ℕ → Bool) (period time : List ℕ) (l : Level) where
       let more : countIf (n + 1) b ≤ countIf rows b = sum-part (λ i. cond (b i) 1 0) (n + 1) rows (omega arith) in
       let is : x .count ≡ l .count + countIf n b = rw e in
       omega (arith, is, more, count-yes n b t)
+
+  -- The loop over the rows stands at row n; y is what the test answered of it.
+  abbrev pub Gathering : ℕ → ℕ → ℕ → List ℕ → List ℕ → List ℕ → Type 0
+  Gathering rows n count index period′ cost =
+      (n ≤ rows) × (length index ≡ length (l .index)) × (length period′ ≡ length (l .period)) × (length cost ≡ length (l .cost))
+      × (levelBy (l .tied) count index period′ cost ≡ gathered b period time n l)
+
+  module _
+      {rows n count : ℕ} {index period′ cost : List ℕ} (g : Gathering rows n count index period′ cost) (h : n < rows) {y : Bool} (e : y ≡ b n) where
+    pub gathering-room : l .count + countIf rows b ≤ 128 → y ≡ true → count < 128
+    gathering-room room t = gathered-room n rows h room (sym e ∙ t) (levelBy (l .tied) count index period′ cost) (g .4)
+
+    pub gathering-yes :
+        y ≡ true → {count″ : ℕ} {index″ period″ cost″ : List ℕ} → index″ ≡ set index count n → period″ ≡ set period′ count (at period n)
+        → cost″ ≡ set cost count (at time n) → count″ ≡ count + 1 → Gathering rows (n + 1) count″ index″ period″ cost″
+    gathering-yes t ei ep ec en =
+        rw (ei, ep, ec, en)
+        (omega arith, simp length-set (g .1), simp length-set (g .2), simp length-set (g .3), gathered-yes n (levelBy (l .tied) count index period′ cost) (g .4) (sym e ∙ t))
+
+    pub gathering-no :
+        y ≡ false → {count″ : ℕ} {index″ period″ cost″ : List ℕ} → index″ ≡ index → period″ ≡ period′ → cost″ ≡ cost → count″ ≡ count
+        → Gathering rows (n + 1) count″ index″ period″ cost″
+    gathering-no t ei ep ec en =
+        rw (ei, ep, ec, en)
+        (omega arith, g .1, g .2, g .3, gathered-no n (levelBy (l .tied) count index period′ cost) (g .4) (sym e ∙ t))
+
+  pub gathered-all :
+      {rows n count : ℕ} {index period′ cost : List ℕ} → rows ≤ n → Gathering rows n count index period′ cost
+      → levelBy (l .tied) count index period′ cost ≡ gathered b period time rows l
+  gathered-all {rows} {n} h g = let same : n ≡ rows = omega (arith, g .0) in rw (← same) (g .4)
 
   pub gathered-sizes :
       (n : ℕ) (x : Level) → x ≡ gathered b period time n l
@@ -297,13 +327,6 @@ module _ {P : Plan} {r : ℕ} {l : Level} (o : LevelOf P r l) (lr : r < P .rows)
     bound = rw (row-is i h) at (b .each i h);
   }
 
--- Lists that are the same have the same sizes.
-pub lent-same :
-    {index period cost due later begin best index′ period′ cost′ due′ later′ begin′ best′ : List ℕ}
-    → index′ ≡ index → period′ ≡ period → cost′ ≡ cost → due′ ≡ due → later′ ≡ later → begin′ ≡ begin → best′ ≡ best
-    → Lent index period cost due later begin best → Lent index′ period′ cost′ due′ later′ begin′ best′
-lent-same i p c d l b m lent = rw (i, p, c, d, l, b, m) lent
-
 -- One turn of the analysis: the row is solved already,
 pub partly-skip :
     {P : Plan} {busy instances bound : List ℕ} {row : ℕ} → row < P .rows → (at busy row ≡ 0 → ⊥)
@@ -361,3 +384,84 @@ module _
       still k h (solved s) q = inr s
       still k h (as-before b m c ne) (inl z) = inl (b ∙ z)
       still k h (as-before b m c ne) (inr s) = inr (keeps k b m c s)
+
+-- What laying the numbers of a level's tied rows reads is there.
+pub tied-periods : {l : Level} → Sound l → (i : ℕ) → i < l .tied → (0 < at (l .period) i) × (at (l .period) i ≤ 1000000)
+tied-periods {l} s i h =
+    let in-it : i < l .count = omega (arith, s .tied-most) in
+    (s .ranged .period-least i in-it, s .ranged .period-most i in-it)
+
+module _
+    {P : Plan} {busy₀ instances₀ bound₀ busy instances bound index period cost due later begin best : List ℕ} {row : ℕ}
+    (g : Going P busy₀ instances₀ bound₀ busy instances bound index period cost due later begin best row)
+    (lb : P .rows ≤ length busy₀) (li : P .rows ≤ length instances₀) (lc : P .rows ≤ length bound₀) where
+  pub tied-places :
+      {l : Level} → LevelOf P row l → (i : ℕ) → i < l .tied
+      → (at (l .index) i < length busy) × (at (l .index) i < length instances) × (at (l .index) i < length bound)
+  tied-places {l} o i h =
+      let here : at (l .index) i < P .rows = o .index-row i h in
+      (omega (arith, g .busy-size), omega (arith, g .instances-size), omega (arith, g .bound-size))
+
+  -- A turn: the lists at its end are those that its calls left.
+  pub going-laid :
+      {tied count D : ℕ} {index₁ period₁ cost₁ due₁ later₁ begin₁ best₁ busy₁ instances₁ bound₁ : List ℕ}
+      → row < P .rows → LevelOf P row (levelBy tied count index₁ period₁ cost₁) → Least (workOf count period₁ cost₁) D → D ≤ limit
+      → ((i : ℕ) → i < tied → Greatest (gatheredRow count period₁ cost₁ i) (ceil D (at period₁ i)) (at best₁ i))
+      → Laid tied D index₁ period₁ best₁ busy instances bound busy₁ instances₁ bound₁
+      → length busy₁ ≡ length busy → length instances₁ ≡ length instances → length bound₁ ≡ length bound
+      → Lent index₁ period₁ cost₁ due₁ later₁ begin₁ best₁
+      → {index′ period′ cost′ due′ later′ begin′ best′ busy′ instances′ bound′ : List ℕ}
+      → busy′ ≡ busy₁ → instances′ ≡ instances₁ → bound′ ≡ bound₁ → index′ ≡ index₁ → period′ ≡ period₁ → cost′ ≡ cost₁
+      → due′ ≡ due₁ → later′ ≡ later₁ → begin′ ≡ begin₁ → best′ ≡ best₁
+      → Going P busy₀ instances₀ bound₀ busy′ instances′ bound′ index′ period′ cost′ due′ later′ begin′ best′ (row + 1)
+  going-laid less o least within ends laid zb zi zc lent eb ei ec e₁ e₂ e₃ e₄ e₅ e₆ e₇ =
+      rw (eb, ei, ec, e₁, e₂, e₃, e₄, e₅, e₆, e₇) (record {
+        most = omega arith;
+        busy-size = zb ∙ g .busy-size;
+        instances-size = zi ∙ g .instances-size;
+        bound-size = zc ∙ g .bound-size;
+        partly = partly-laid less (omega (arith, g .busy-size)) (omega (arith, g .instances-size)) (omega (arith, g .bound-size)) o least within (record { each = ends }) laid (g .partly);
+        lent = lent;
+      })
+
+  pub going-skip :
+      row < P .rows → (at busy row ≡ 0 → ⊥)
+      → {index′ period′ cost′ due′ later′ begin′ best′ busy′ instances′ bound′ : List ℕ}
+      → busy′ ≡ busy → instances′ ≡ instances → bound′ ≡ bound → index′ ≡ index → period′ ≡ period → cost′ ≡ cost
+      → due′ ≡ due → later′ ≡ later → begin′ ≡ begin → best′ ≡ best
+      → Going P busy₀ instances₀ bound₀ busy′ instances′ bound′ index′ period′ cost′ due′ later′ begin′ best′ (row + 1)
+  going-skip less ne eb ei ec e₁ e₂ e₃ e₄ e₅ e₆ e₇ =
+      rw (eb, ei, ec, e₁, e₂, e₃, e₄, e₅, e₆, e₇) (record {
+        most = omega arith;
+        busy-size = g .busy-size;
+        instances-size = g .instances-size;
+        bound-size = g .bound-size;
+        partly = partly-skip less ne (g .partly);
+        lent = g .lent;
+      })
+
+-- Before the first turn no row is solved,
+pub going-first :
+    {P : Plan} {busy instances bound index period cost due later begin best : List ℕ}
+    → ((k : ℕ) → k < P .rows → at busy k ≡ 0) → Lent index period cost due later begin best
+    → Going P busy instances bound busy instances bound index period cost due later begin best 0
+going-first none lent = record {
+  most = omega arith;
+  busy-size = refl;
+  instances-size = refl;
+  bound-size = refl;
+  partly = record { done = λ k h. absurd (omega arith); each = λ k h. inl (none k h) };
+  lent = lent;
+}
+
+-- and the analysis ends at a row with no busy length, or after all.
+module _
+    {P : Plan} {busy₀ instances₀ bound₀ busy instances bound index period cost due later begin best : List ℕ} {row : ℕ}
+    (g : Going P busy₀ instances₀ bound₀ busy instances bound index period cost due later begin best row) where
+  pub analysed-stuck :
+      {tied count : ℕ} {index₁ period₁ cost₁ : List ℕ} → LevelOf P row (levelBy tied count index₁ period₁ cost₁)
+      → Unanswered (workOf count period₁ cost₁) limit → Analysed P busy instances bound row
+  analysed-stuck o none = record { most = g .most; solved = g .partly .done; stuck = λ h. unanswered-ext (o .work-is) none }
+
+  pub analysed-all : P .rows ≤ row → Analysed P busy instances bound row
+  analysed-all h = record { most = g .most; solved = g .partly .done; stuck = λ l. absurd (omega arith) }

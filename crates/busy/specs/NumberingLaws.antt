@@ -1,11 +1,12 @@
 -- From what the parts promise to the outcome of the whole.
 use mathlib.Core.Path.{_≡_, refl, ap, sym, _∙_}
-use mathlib.Core.Bool.{Bool, true, false}
+use mathlib.Core.Bool.{Bool, true, false, not}
 use mathlib.Core.List.{List}
 use Prim.Native.Nat.{ℕ, _+_, _≤_, _<_}
 use native.Mathlib.Omega.{arith}
 use native.Mathlib.Numerals.{add-one}
 use lib.ListN.{length}
+use borrow.Author.Tests.{not-true, not-false}
 use Rattle.facts.specs.Filled.{filled}
 use Rattle.facts.specs.FilledLaws.{getD-filled, length-filled}
 use Rattle.table.specs.declared.refusal.Refusal.the-variants.{NotAPlan, NoBusyLength, TooShort}
@@ -17,6 +18,7 @@ use Rattle.equations.specs.Beside.{rowOf}
 use Rattle.equations.specs.BesideLaws.{SameRows, row-same}
 use Rattle.busy.specs.Busy.{Numbers, Analysis}
 use Rattle.busy.specs.Numbering.{RowLists, roomForRows, rowsFilledIn, Found, Unnumbered, no-plan, too-short, no-busy-length}
+use Rattle.busy.specs.Climb.{Zeros}
 use Rattle.busy.specs.Level.{planBy, Usable, Analysed}
 use Rattle.busy.specs.Rows.{Viewing, plan, none, numbersOf}
 
@@ -121,3 +123,34 @@ module _ (processors tasks : ℕ) (period deadline steps processor priority time
         lists = rw (eb, em, er, q .count);
         says = q .count;
       }
+
+  -- What the whole answers, from what its parts answered: n rows were seen, and x says whether the lists are long enough.
+  module _ {before after : List ℕ} {n : ℕ} (size : length before ≡ 128) (v : Viewing T before after n) (some : n ≡ 0 → ⊥) where
+    seen : Ready after n
+    seen = ready size v some
+
+    pub seen-fits : {a b c : ℕ} → a ≡ 128 → b ≡ 128 → c ≡ 128 → (n ≤ a) × (n ≤ b) × (n ≤ c)
+    seen-fits ea eb ec = let few : n ≤ 128 = seen .usable .few in (omega arith, omega arith, omega arith)
+
+    pub seen-usable :
+        {busy instances bound : List ℕ} → Zeros busy → Zeros instances → Zeros bound
+        → Usable n after processor priority time
+        × ((n ≤ length busy) × (n ≤ length instances) × (n ≤ length bound) × ((k : ℕ) → k < n → at busy k ≡ 0))
+    seen-usable z i b = let fit = seen-fits (z .size) (i .size) (b .size) in (seen .usable, (fit .0, fit .1, fit .2, λ k h. z .zero k))
+
+    module _ (l : RowLists) {x : Bool} (e : x ≡ longEnough n (l .busy) (l .instances) (l .bound)) where
+      pub answer-short : not x ≡ true → Unnumbered T l (TooShort n)
+      answer-short t = refusing-room seen l (room-is seen l false (sym e ∙ not-true x t))
+
+      pub answer-stuck :
+          not x ≡ false → {busy instances bound : List ℕ} {done : ℕ} → Analysed (planBy n after processor priority time) busy instances bound done
+          → done < n → Unnumbered T l (NoBusyLength (done + 1))
+      answer-stuck t a h = refusing-stuck seen l (room-is seen l true (sym e ∙ not-false x t)) a h
+
+      pub answer-found :
+          not x ≡ false → {busy instances bound : List ℕ} {done : ℕ} → Analysed (planBy n after processor priority time) busy instances bound done
+          → n ≤ done → {l′ : RowLists}
+          → (l′ .busy ≡ filled (at busy) n (l .busy)) × (l′ .instances ≡ filled (at instances) n (l .instances)) × (l′ .bound ≡ filled (at bound) n (l .bound))
+          → (isPlan T ≡ true) × (roomForRows T l ≡ true) × Found T l l′ n
+      answer-found t a all f =
+          (seen .plan, room-is seen l true (sym e ∙ not-false x t), found seen a all (f .0) (f .1) (f .2))

@@ -12,7 +12,7 @@ ghost use Rattle.guards.specs.Lent.{onLists, outcomeOf, stateOf};
 ghost use Rattle.columns.specs.Columns.{tableIn};
 
 // An instance of the task arrives at its first row, in a state in four lists.
-pub fn arrive_in(
+fn arrive_in(
     columns: Columns,
     clock: u64,
     released: &mut [u64],

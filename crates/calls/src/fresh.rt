@@ -12,7 +12,7 @@ ghost use Rattle.guards.specs.Lent.{onLists, outcomeOf, stateOf};
 ghost use Rattle.columns.specs.Columns.{tableIn};
 
 // A fresh start of the state in four lists.
-pub fn fresh_in(
+fn fresh_in(
     columns: Columns,
     clock: u64,
     released: &mut [u64],

@@ -1,6 +1,6 @@
-// The calls on a table by value: of a state by value, and of a state in four lists.
+// The calls on a table by value and a state by value.
 
 pub mod arrive;
 pub mod fresh;
-pub mod outcome;
+mod outcome;
 pub mod tick;

@@ -1,6 +1,5 @@
-// A call's outcome: its two parts, and how it comes of a call on lists.
+// A call's outcome, as it comes of a call on lists.
 
-use guards::state::Answer;
 use guards::state::Called;
 use guards::state::Outcome;
 use guards::state::State;
@@ -29,20 +28,4 @@ pub(crate) fn outcome_of(
             guard: guard,
         },
     }
-}
-
-// The answer of a call.
-pub fn answer_of(outcome: Outcome) -> Answer
-    ensures { λ r. ⌜ r ≡ outcome .answer ⌝ }
-{
-    let answer = outcome.answer;
-    answer
-}
-
-// The state after a call.
-pub fn state_of(outcome: Outcome) -> State
-    ensures { λ r. ⌜ r ≡ outcome .state ⌝ }
-{
-    let state = outcome.state;
-    state
 }

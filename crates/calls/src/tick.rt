@@ -13,7 +13,7 @@ ghost use Rattle.guards.specs.Lent.{outcomeOf, stateOf, tickOnLists};
 ghost use Rattle.columns.specs.Columns.{tableIn};
 
 // One tick of the state in four lists.
-pub fn tick_in(
+fn tick_in(
     columns: Columns,
     clock: u64,
     released: &mut [u64],

@@ -1,9 +1,9 @@
 -- Laws of the columns: a place past their end.
-use Prim.Native.Nat.{ℕ, suc, zero, _≤_}
+use Prim.Native.Nat.{ℕ, _≤_}
 use native.Mathlib.Omega.{arith}
-use mathlib.Core.Path.{_≡_, refl, sym, _∙_, ap}
-use mathlib.Core.List.{List, [], _∷_}
-use lib.ListN.{length, set, List·getD-eq-default}
+use mathlib.Core.Path.{_≡_, sym}
+use lib.ListN.{length, List·getD-eq-default}
+use Rattle.facts.specs.ListLaws.{set-past}
 use Rattle.columns.specs.declared.columns.Columns.{Columns}
 use Rattle.columns.specs.declared.columns.Chain.{Chain}
 use Rattle.columns.specs.declared.columns.Row.{Row}
@@ -17,12 +17,6 @@ pub record Sizes (c : Columns) : Type 0 where
   pub processor : length (c .processor) ≡ 128
   pub priority : length (c .priority) ≡ 128
   pub time : length (c .time) ≡ 128
-
--- A store past the end of a list changes nothing.
-pub set-past : (l : List ℕ) (i v : ℕ) → length l ≤ i → l ≡ set l i v
-set-past [] i v h = refl
-set-past (x ∷ xs) zero v h = absurd (omega arith)
-set-past (x ∷ xs) (suc i) v h = ap (λ (r : List ℕ). x ∷ r) (set-past xs i v (omega arith))
 
 pub chain-past : (c : Columns) (i : ℕ) (chain : Chain) → Sizes c → 32 ≤ i → c ≡ withChain c i chain
 chain-past c i chain z h = rw (sym (set-past (c .period) i (chain .period) (omega arith)), sym (set-past (c .deadline) i (chain .deadline) (omega arith)), sym (set-past (c .steps) i (chain .steps) (omega arith)))

@@ -1,17 +1,14 @@
 // When a state fits a plan.
 
-use guards::rows::rows_in;
 use guards::state::LAST_CLOCK;
-use guards::state::State;
 ghost use mathlib.Core.Path.{_≡_};
 ghost use Prim.Native.Nat.{_≤_};
-ghost use Rattle.table.specs.Table.{at, tableOf};
+ghost use Rattle.table.specs.Table.{at};
 ghost use Rattle.table.specs.Refusals.{lastClock};
 ghost use mathlib.Core.List.{[]};
 ghost use Rattle.facts.specs.Tests.{all};
 ghost use Rattle.guards.specs.Moment.{momentOf};
 ghost use Rattle.guards.specs.Fits.{rowFits};
-ghost use Rattle.guards.specs.Questions.{stateFits};
 ghost use Rattle.guards.specs.Rows.{chainFits, countsFit, planFrom};
 ghost use Rattle.guards.specs.Lent.{Fitting, holds, rowsFitIn, stand, stateOf};
 
@@ -182,53 +179,5 @@ pub fn rows_fit(
         completed,
         used,
         guard,
-    )
-}
-
-// Whether the table is a plan and the state fits it.
-pub fn state_fits(
-    processors: u64,
-    tasks: u64,
-    period: &[u64],
-    deadline: &[u64],
-    steps: &[u64],
-    processor: &[u64],
-    priority: &[u64],
-    time: &[u64],
-    state: State,
-) -> bool
-    ensures { λ r. ⌜ r ≡ stateFits (tableOf processors tasks (now (period .entry)) (now (deadline .entry)) (now (steps .entry)) (now (processor .entry)) (now (priority .entry)) (now (time .entry))) state ⌝ }
-{
-    let mut periods = [0u64; 128];
-    let mut firsts = [false; 128];
-    let count = rows_in(
-        processors,
-        tasks,
-        period,
-        deadline,
-        steps,
-        processor,
-        priority,
-        time,
-        &mut periods,
-        &mut firsts,
-    );
-    if count == 0 {
-        return false;
-    }
-    let released = state.released;
-    let completed = state.completed;
-    let used = state.used;
-    let guard = state.guard;
-    rows_fit(
-        count,
-        &periods,
-        &firsts,
-        time,
-        state.clock,
-        &released,
-        &completed,
-        &used,
-        &guard,
     )
 }

@@ -1,3 +1,3 @@
-// When a run state, by value or in lent lists, fits a plan.
+// When a run state in lent lists fits a plan.
 
 pub mod fits;

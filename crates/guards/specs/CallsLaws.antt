@@ -15,11 +15,9 @@ use Rattle.guards.specs.declared.state.State.{State}
 use Rattle.guards.specs.declared.state.Answer.{Answer}
 use Rattle.guards.specs.declared.state.Answer.the-variants.{Taken, Refused}
 use Rattle.guards.specs.declared.state.Outcome.{Outcome}
-use Rattle.guards.specs.declared.rows.Rows.{Rows}
+use Rattle.guards.specs.Rows.{Rows}
 use Rattle.guards.specs.Moment.{momentOf}
 use Rattle.guards.specs.Fits.{fits}
-use Rattle.guards.specs.Rows.{rowsOf}
-use Rattle.guards.specs.Questions.{stateFits, runningRow}
 use Rattle.guards.specs.Lent.{holds, onLists, tickOnLists, rowsFitIn}
 use Rattle.guards.specs.Calls.{TickOutcome, freshStart, hasTask, arrive, wrongDone, usedUp, tick, refused, taken, stays}
 
@@ -35,18 +33,8 @@ pub tick-one :
     → o ≡ tick T σ done released → p ≡ tick T σ done released → o ≡ p
 tick-one T σ done released a b = a ∙ sym b
 
-pub state-fits-one : (T : Table) (σ : State) {o p : Bool} → o ≡ stateFits T σ → p ≡ stateFits T σ → o ≡ p
-state-fits-one T σ a b = a ∙ sym b
-
 pub rows-fit-one : (R : Rows) (time : List ℕ) (σ : State) {o p : Bool} → o ≡ rowsFitIn R time σ → p ≡ rowsFitIn R time σ → o ≡ p
 rows-fit-one R time σ a b = a ∙ sym b
-
-pub rows-of-one : (T : Table) {o p : Rows} → o ≡ rowsOf T → p ≡ rowsOf T → o ≡ p
-rows-of-one T a b = a ∙ sym b
-
-pub running-row-one :
-    (T : Table) (σ : State) (processor : ℕ) {o p : ℕ} → o ≡ runningRow T σ processor → p ≡ runningRow T σ processor → o ≡ p
-running-row-one T σ processor a b = a ∙ sym b
 
 -- An outcome keeps the state σ where its answer is a refusal.
 record Keeps (σ : State) (o : Outcome) : Type 0 where

@@ -12,9 +12,8 @@ use Rattle.guards.specs.declared.state.State.{State}
 use Rattle.guards.specs.declared.state.Answer.the-variants.{Taken, Refused}
 use Rattle.guards.specs.declared.state.Outcome.{Outcome}
 use Rattle.guards.specs.declared.state.Called.{Called}
-use Rattle.guards.specs.declared.rows.Rows.{Rows}
 use Rattle.guards.specs.Calls.{TickOutcome, refused, stays}
-use Rattle.guards.specs.Questions.{rowsFit}
+use Rattle.guards.specs.Rows.{Rows, rowsFit}
 
 -- The state of a clock and four lists.
 abbrev pub stateOf : ℕ → List ℕ → List ℕ → List ℕ → List ℕ → State

@@ -18,13 +18,11 @@ use Rattle.table.specs.Refusals.{lastClock}
 use Rattle.table.specs.declared.refusal.Refusal.the-variants.{StateDoesNotFit}
 use Rattle.guards.specs.declared.state.State.{State}
 use Rattle.guards.specs.declared.state.Outcome.{Outcome}
-use Rattle.guards.specs.declared.rows.Rows.{Rows}
 use Rattle.guards.specs.Moment.{momentOf, stateWith}
 use Rattle.guards.specs.Machine.{start}
 use Rattle.guards.specs.Fits.{rowFits, fits}
-use Rattle.guards.specs.Rows.{planFrom}
+use Rattle.guards.specs.Rows.{Rows, planFrom, rowsFit}
 use Rattle.guards.specs.PartsLaws.{rows-fit-listed}
-use Rattle.guards.specs.Questions.{rowsFit}
 use Rattle.guards.specs.Calls.{TickOutcome, refused, stays}
 use Rattle.guards.specs.StateLaws.{Sizes}
 use Rattle.guards.specs.RowsLaws.{RowsOf, rows-fit-plan}

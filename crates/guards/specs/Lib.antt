@@ -5,7 +5,6 @@ pub mod Fits
 pub mod Calls
 pub mod Rows
 pub mod Arrival
-pub mod Questions
 pub mod Lent
 pub mod ListsLaws
 pub mod StateLaws

@@ -9,13 +9,11 @@ use Rattle.facts.specs.Tests.{all}
 use Rattle.facts.specs.TestsLaws.{all-fails}
 use Rattle.table.specs.Refusals.{lastClock}
 use Rattle.table.specs.Plan.{Plan}
-use Rattle.guards.specs.declared.rows.Rows.{Rows}
 use Rattle.guards.specs.declared.state.State.{State}
 use Rattle.guards.specs.Moment.{Moment, momentOf}
 use Rattle.guards.specs.Running.{isOpen}
 use Rattle.guards.specs.Fits.{firstFits, laterFits, rowFits, fits}
-use Rattle.guards.specs.Rows.{countsFit, chainFits, planFrom}
-use Rattle.guards.specs.Questions.{rowsFit}
+use Rattle.guards.specs.Rows.{Rows, countsFit, chainFits, planFrom, rowsFit}
 
 and-assoc : (a b c : Bool) → (a && b) && c ≡ a && (b && c)
 and-assoc true b c = refl

@@ -2,16 +2,23 @@
 use Prim.Native.Nat.{ℕ, _+_, _≤_, _<_}
 use mathlib.Core.Path.{_≡_}
 use mathlib.Core.Bool.{Bool, true, false, cond, not, _&&_, _||_}
-use mathlib.Core.List.{List}
+use mathlib.Core.List.{List, []}
 use lib.Dec.{leb, ltb, eqb}
 use lib.ListN.{length, getD}
-use Rattle.facts.specs.Filled.{tab, filled}
-use Rattle.table.specs.Table.{Table, at, rows, isPlan}
-use Rattle.table.specs.Plan.{Plan, planOf}
+use Rattle.table.specs.Table.{Table, at, mostRows}
+use Rattle.table.specs.Plan.{Plan}
 use Rattle.planned.specs.View.{viewed}
 use Rattle.planned.specs.declared.plan.View.{View}
 use Rattle.planned.specs.declared.plan.View.the-variants as view
-use Rattle.guards.specs.declared.rows.Rows.{Rows}
+use Rattle.guards.specs.declared.state.State.{State}
+use Rattle.guards.specs.Moment.{momentOf}
+use Rattle.guards.specs.Fits.{fits}
+
+-- A plan's rows in lists: how many, each row's period, and whether it is the first of its chain.
+pub record Rows : Type 0 where
+  pub count : ℕ
+  pub period : List ℕ
+  pub first : List Bool
 
 -- How many rows the view of a table has: none where it is refused.
 abbrev pub countOf : View → ℕ
@@ -25,17 +32,6 @@ rowsIn T period first = record {
   period = viewed T period first .period;
   first = viewed T period first .first;
 }
-
--- The rows of a table in lists of 128, whose entries past the rows are 0 and no; a table that is no plan has none.
-unfoldable pub rowsOf : Table → Rows
-rowsOf T =
-    cond (isPlan T)
-    (record {
-      count = rows T;
-      period = filled (planOf T .period) (rows T) (tab (λ r. 0) 128);
-      first = filled (planOf T .first) (rows T) (tab (λ r. false) 128);
-    })
-    (record { count = 0; period = tab (λ r. 0) 128; first = tab (λ r. false) 128 })
 
 -- The plan of so many rows that these lists hold; a list that is not asked for may be empty.
 abbrev pub planFrom : ℕ → List ℕ → List Bool → List ℕ → List ℕ → List ℕ → Plan
@@ -59,3 +55,10 @@ chainFits first clock period released guard before =
     leb guard (clock + period)
     && cond first (not (eqb released (clock + 1)) || ltb clock guard)
     (leb released before && (not (ltb released before) || ltb clock guard))
+
+-- The rows have their place in the lists, and the state fits the plan of these rows with their times.
+unfoldable pub rowsFit : Rows → List ℕ → State → Bool
+rowsFit R time σ =
+    leb (R .count) mostRows
+    && (leb (R .count) (length time)
+    && fits (planFrom (R .count) (R .period) (R .first) [] [] time) (momentOf σ))

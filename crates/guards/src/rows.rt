@@ -4,15 +4,7 @@ use planned::plan::View;
 use planned::plan::view_rows;
 ghost use mathlib.Core.Path.{_≡_};
 ghost use Rattle.table.specs.Table.{tableOf};
-ghost use Rattle.guards.specs.Rows.{countOf, rowsIn, rowsOf};
-ghost use Rattle.guards.specs.declared.rows.Rows.{Rows};
-
-// How many rows, each row's period, and whether it is the first of its chain.
-pub struct Rows {
-    pub count: usize,
-    pub period: [u64; 128],
-    pub first: [bool; 128],
-}
+ghost use Rattle.guards.specs.Rows.{Rows, countOf, rowsIn};
 
 fn count_of(view: View) -> usize
     ensures { λ r. ⌜ r ≡ countOf view ⌝ }
@@ -51,38 +43,4 @@ pub fn rows_in(
         firsts,
     );
     count_of(view)
-}
-
-// The rows of a table; one that is no plan has none.
-pub fn rows_of(
-    processors: u64,
-    tasks: u64,
-    period: &[u64],
-    deadline: &[u64],
-    steps: &[u64],
-    processor: &[u64],
-    priority: &[u64],
-    time: &[u64],
-) -> Rows
-    ensures { λ r. ⌜ r ≡ rowsOf (tableOf processors tasks (now (period .entry)) (now (deadline .entry)) (now (steps .entry)) (now (processor .entry)) (now (priority .entry)) (now (time .entry))) ⌝ }
-{
-    let mut periods = [0u64; 128];
-    let mut firsts = [false; 128];
-    let count = rows_in(
-        processors,
-        tasks,
-        period,
-        deadline,
-        steps,
-        processor,
-        priority,
-        time,
-        &mut periods,
-        &mut firsts,
-    );
-    Rows {
-        count: count,
-        period: periods,
-        first: firsts,
-    }
 }

@@ -32,10 +32,10 @@ use Rattle.guards.proofs.state.State as T
 use Rattle.guards.proofs.state.Answer as P
 use Rattle.guards.proofs.state.Outcome as O
 use Rattle.guards.proofs.state.Outcome.Laws as O′
-use Rattle.calls.proofs.outcome.state_of as fst
-use Rattle.calls.proofs.outcome.state_of.Symbol.{name as #fst}
-use Rattle.calls.proofs.outcome.answer_of as snd
-use Rattle.calls.proofs.outcome.answer_of.Symbol.{name as #snd}
+use Rattle.kept.proofs.outcome.state_of as fst
+use Rattle.kept.proofs.outcome.state_of.Symbol.{name as #fst}
+use Rattle.kept.proofs.outcome.answer_of as snd
+use Rattle.kept.proofs.outcome.answer_of.Symbol.{name as #snd}
 
 -- A state and an answer taken of an outcome are the whole of it.
 pub whole : (r : Outcome) (z : State) (k : Answer) → z ≡ r .state → k ≡ r .answer → _≡_ {A = Outcome} (record { answer = k; state = z }) r

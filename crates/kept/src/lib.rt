@@ -1,8 +1,9 @@
 // One state is kept, and each call updates it: thin calls over a lent state, above the calls by value.
 
+mod outcome;
+
 use calls::arrive as arrival;
 use calls::fresh;
-use calls::outcome;
 use calls::tick as ticking;
 use columns::columns::Columns;
 use guards::state::Answer;

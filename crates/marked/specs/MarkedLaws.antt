@@ -16,7 +16,7 @@ use Rattle.facts.specs.Least.{Least}
 use Rattle.facts.specs.LeastLaws.{iterate, iterate-least}
 use Rattle.facts.specs.Filled.{tab, joined}
 use Rattle.table.specs.Ranges.{ranges, rangeOf, inRange}
-use Rattle.table.specs.Table.{Table, at, firstRow, rows, taskRight, rowRight, longEnough, tasksRight, rowsRight, isPlan}
+use Rattle.table.specs.Table.{Table, at, firstRow, rows, entryRight, longEnough, entriesRight, isPlan}
 use Rattle.table.specs.TableLaws.{checked}
 use Rattle.table.specs.Plan.{taskOf, cost, planOf, inForce}
 use Rattle.table.specs.PlanLaws.{right-of}
@@ -133,13 +133,13 @@ reported-by file report T N short holds plan analysis text =
     (holds, λ out room. read short holds (given plan analysis (rw (text, le-ltb _ _ room))))
 
 report-holds : Holds p1
-unfolding p1 paperFile paperPlan paperReport textOf words word blank rowsAsked own added placed following advanced isDigit stands digitsFrom valueFrom lineAt tooMany judged heldFrom held numbersOf expectedOf rowPasses rowTest allSettled worst work workTo rowOf demand beside level ceil settled found iterate isPlan inRange rangeOf ranges tasksRight taskRight rowsRight rowRight longEnough rows firstRow planOf taskOf cost all sum sumIf chainBound slackOf accepted inForce rowLoad loadOf load digits decimal line rowLines slackLine taskLines processorLines reportOf figures reportText joined
+unfolding p1 paperFile paperPlan paperReport textOf words word blank rowsAsked own added placed following advanced isDigit stands digitsFrom valueFrom lineAt tooMany judged heldFrom held numbersOf expectedOf rowPasses rowTest allSettled worst work workTo rowOf demand beside level ceil settled found iterate isPlan inRange rangeOf ranges entriesRight entryRight longEnough rows firstRow planOf taskOf cost all sum sumIf chainBound slackOf accepted inForce rowLoad loadOf load digits decimal line rowLines slackLine taskLines processorLines reportOf figures reportText joined
 report-holds =
     let rows = numbers 2 1 [] 2 ∷ numbers 4 1 [] 4 ∷ numbers 2 1 [] 2 ∷ numbers 5 1 [] 5 ∷ [] in
     reported-by paperFile paperReport paperPlan (numbersOf rows) (leb-true _ _ refl) refl refl (analysis-by paperPlan refl 9 rows refl) refl
 
 bounds-hold : Holds p2 × Holds p4 × Holds p5 × Holds p6
-unfolding p2 p4 p5 p6 ownChains numbersOf expectedOf rowPasses instancesPass rowTest allSettled worst work workTo rowOf demand beside level ceil settled found iterate isPlan inRange rangeOf ranges tasksRight taskRight rowsRight rowRight longEnough rows firstRow planOf taskOf cost all sum sumIf
+unfolding p2 p4 p5 p6 ownChains numbersOf expectedOf rowPasses instancesPass rowTest allSettled worst work workTo rowOf demand beside level ceil settled found iterate isPlan inRange rangeOf ranges entriesRight entryRight longEnough rows firstRow planOf taskOf cost all sum sumIf
 bounds-hold = (
   bounded-by _ refl 9 _ refl refl,
   bounded-by _ refl 30 _ refl refl,
@@ -148,14 +148,14 @@ bounds-hold = (
 )
 
 no-bounds-hold : Holds p3 × Holds p8
-unfolding p3 p8 ownChains work workTo rowOf demand beside level ceil settled found iterate isPlan inRange rangeOf ranges tasksRight taskRight rowsRight rowRight longEnough rows firstRow planOf taskOf cost all sum sumIf
+unfolding p3 p8 ownChains work workTo rowOf demand beside level ceil settled found iterate isPlan inRange rangeOf ranges entriesRight entryRight longEnough rows firstRow planOf taskOf cost all sum sumIf
 no-bounds-hold = (
   unbounded-by _ refl 90 0 (ltb-true _ _ refl) (ltb-true _ _ refl) refl,
   unbounded-by _ refl 30 1 (ltb-true _ _ refl) (ltb-true _ _ refl) refl,
 )
 
 runs-hold : Holds p9 × Holds p10 × Holds p11 × Holds p12
-unfolding p9 p10 p11 p12 paperPlan lentTo outcomeOf steps after isTaken allTaken clocks answers told toldReleased countedReleased countedCompleted rowRuns fullTimes isIn arrivingAt atFullTimes joined freshStart hasTask arrive isDone wrongDone usedUp releasedByte tick firstFits laterFits rowFits fits start arrived worked idle opened due letGo beforeRelease ticked isOpen better best running isRunning momentOf stateWith isPlan inRange rangeOf ranges tasksRight taskRight rowsRight rowRight longEnough rows firstRow planOf taskOf cost all sum sumIf tab lowest
+unfolding p9 p10 p11 p12 paperPlan lentTo outcomeOf steps after isTaken allTaken clocks answers told toldReleased countedReleased countedCompleted rowRuns fullTimes isIn arrivingAt atFullTimes joined freshStart hasTask arrive isDone wrongDone usedUp releasedByte tick firstFits laterFits rowFits fits start arrived worked idle opened due letGo beforeRelease ticked isOpen better best running isRunning momentOf stateWith isPlan inRange rangeOf ranges entriesRight entryRight longEnough rows firstRow planOf taskOf cost all sum sumIf tab lowest
 runs-hold = (
   λ any. (refl, refl, refl),
   λ any. (refl, refl, refl),

@@ -8,8 +8,8 @@ use lib.Dec.{leb}
 use Rattle.facts.specs.Tests.{all}
 use Rattle.facts.specs.TestsLaws.{and-left, and-right, and-true, all-at, all-of}
 use Rattle.table.specs.Keys.{processorsKey, tasksKey, periodKey, deadlineKey, stepsKey, processorKey, priorityKey, timeKey}
-use Rattle.table.specs.Ranges.{inRange}
-use Rattle.table.specs.Table.{Table, at, rows, mostRows, taskRight, rowRight, longEnough, tasksRight, rowsRight, isPlan}
+use Rattle.table.specs.Ranges.{inRange, rangeOf, ranges}
+use Rattle.table.specs.Table.{Table, at, rows, mostRows, entryRight, longEnough, entriesRight, isPlan}
 use Rattle.table.specs.TableLaws.{Long, long-of, long-true}
 
 -- Entry i of the list is in the range of the key, for each i below n.
@@ -38,30 +38,30 @@ three a b c e = let r = both b c (and-right a (b && c) e) in (and-left a (b && c
 
 module _ (T : Table) where
   task-tests :
-      all (T .tasks) (λ i. taskRight (at (T .period) i) (at (T .deadline) i) (at (T .steps) i)) ≡ true → (i : ℕ) → i < T .tasks
+      all (T .tasks) (λ i. entryRight periodKey 0 (at (T .period) i) (at (T .deadline) i) (at (T .steps) i)) ≡ true → (i : ℕ) → i < T .tasks
       → (inRange periodKey 0 (at (T .period) i) ≡ true) × (inRange deadlineKey 0 (at (T .deadline) i) ≡ true)
       × (inRange stepsKey 0 (at (T .steps) i) ≡ true)
-  unfolding taskRight
+  unfolding entryRight
   task-tests e i l =
       three (inRange periodKey 0 (at (T .period) i)) (inRange deadlineKey 0 (at (T .deadline) i)) (inRange stepsKey 0 (at (T .steps) i))
       (all-at (T .tasks) _ e i l)
 
   row-tests :
-      all (rows T) (λ r. rowRight (T .processors) (at (T .processor) r) (at (T .priority) r) (at (T .time) r)) ≡ true
+      all (rows T) (λ r. entryRight processorKey (T .processors) (at (T .processor) r) (at (T .priority) r) (at (T .time) r)) ≡ true
       → (r : ℕ) → r < rows T
       → (inRange processorKey (T .processors) (at (T .processor) r) ≡ true) × (inRange priorityKey 0 (at (T .priority) r) ≡ true)
       × (inRange timeKey 0 (at (T .time) r) ≡ true)
-  unfolding rowRight
+  unfolding entryRight inRange rangeOf ranges
   row-tests e r l =
       three (inRange processorKey (T .processors) (at (T .processor) r)) (inRange priorityKey 0 (at (T .priority) r))
       (inRange timeKey 0 (at (T .time) r)) (all-at (rows T) _ e r l)
 
 pub values-right : (T : Table) → isPlan T ≡ true → ValuesRight T
-unfolding isPlan tasksRight rowsRight
+unfolding isPlan entriesRight
 values-right T e =
     let a = both (inRange processorsKey 0 (T .processors)) _ e in
     let b = both (inRange tasksKey 0 (T .tasks)) _ (a .1) in
-    let c = both (tasksRight (T .tasks) (T .period) (T .deadline) (T .steps)) _ (b .1) in
+    let c = both (entriesRight (T .tasks) periodKey 0 (T .period) (T .deadline) (T .steps)) _ (b .1) in
     let d = both (leb (rows T) mostRows) _ (c .1) in
     let t = both (longEnough (T .tasks) (T .period) (T .deadline) (T .steps)) _ (c .0) in
     let r = both (longEnough (rows T) (T .processor) (T .priority) (T .time)) _ (d .1) in
@@ -80,18 +80,18 @@ values-right T e =
     }
 
 pub is-plan : (T : Table) → ValuesRight T → isPlan T ≡ true
-unfolding isPlan tasksRight rowsRight taskRight rowRight
+unfolding isPlan entriesRight entryRight inRange rangeOf ranges
 is-plan T v =
     and-true (v .processors) (and-true (v .tasks) (and-true tasks-pass (and-true (le-leb _ _ (v .few)) rows-pass)))
   where
-    tasks-pass : tasksRight (T .tasks) (T .period) (T .deadline) (T .steps) ≡ true
+    tasks-pass : entriesRight (T .tasks) periodKey 0 (T .period) (T .deadline) (T .steps) ≡ true
     tasks-pass =
         and-true (long-true _ _ _ _ (v .task-lists))
-        (all-of (T .tasks) (λ i. taskRight (at (T .period) i) (at (T .deadline) i) (at (T .steps) i))
+        (all-of (T .tasks) (λ i. entryRight periodKey 0 (at (T .period) i) (at (T .deadline) i) (at (T .steps) i))
         (λ i l. and-true (v .period i l) (and-true (v .deadline i l) (v .steps i l))))
 
-    rows-pass : rowsRight (rows T) (T .processors) (T .processor) (T .priority) (T .time) ≡ true
+    rows-pass : entriesRight (rows T) processorKey (T .processors) (T .processor) (T .priority) (T .time) ≡ true
     rows-pass =
         and-true (long-true _ _ _ _ (v .row-lists))
-        (all-of (rows T) (λ r. rowRight (T .processors) (at (T .processor) r) (at (T .priority) r) (at (T .time) r))
+        (all-of (rows T) (λ r. entryRight processorKey (T .processors) (at (T .processor) r) (at (T .priority) r) (at (T .time) r))
         (λ i l. and-true (v .processor i l) (and-true (v .priority i l) (v .time i l))))

@@ -8,7 +8,7 @@ ghost use mathlib.Core.Path.{_≡_};
 ghost use Prim.Native.Nat.{ℕ, _≤_, _<_};
 ghost use lib.ListN.{length};
 ghost use Rattle.facts.specs.Sums.{sum};
-ghost use Rattle.table.specs.Table.{at, isPlan, longEnough, rowRight, rowsRight, tableOf, taskRight, tasksRight};
+ghost use Rattle.table.specs.Table.{at, entriesRight, entryRight, isPlan, longEnough, tableOf};
 ghost use Rattle.planned.specs.View.{Viewed, viewed};
 
 // At most so many rows in all.
@@ -27,55 +27,31 @@ pub fn long_enough(n: usize, a: &[u64], b: &[u64], c: &[u64]) -> bool
     n <= c.len()
 }
 
-fn task_right(period: u64, deadline: u64, steps: u64) -> bool
-    ensures { λ r. ⌜ r ≡ taskRight period deadline steps ⌝ }
+// Whether three values are in the ranges of a key and of the two keys after it.
+fn entry_right(key: usize, own: u64, a: u64, b: u64, c: u64) -> bool
+    requires { ⌜ key ≤ 7 ⌝ }
+    ensures { λ r. ⌜ r ≡ entryRight key own a b c ⌝ }
 {
-    if !in_range(keys::PERIOD, 0, period) {
+    if !in_range(key, own, a) {
         return false;
     }
-    if !in_range(keys::DEADLINE, 0, deadline) {
+    if !in_range(key + 1, own, b) {
         return false;
     }
-    in_range(keys::STEPS, 0, steps)
+    in_range(key + 2, own, c)
 }
 
-fn tasks_right(n: usize, period: &[u64], deadline: &[u64], steps: &[u64]) -> bool
-    ensures { λ r. ⌜ r ≡ tasksRight n (now (period .entry)) (now (deadline .entry)) (now (steps .entry)) ⌝ }
+// Whether three lists have n entries, all right: those of the tasks from `period` on, those of the rows from `processor` on.
+fn entries_right(n: usize, key: usize, own: u64, a: &[u64], b: &[u64], c: &[u64]) -> bool
+    requires { ⌜ key ≤ 7 ⌝ }
+    ensures { λ r. ⌜ r ≡ entriesRight n key own (now (a .entry)) (now (b .entry)) (now (c .entry)) ⌝ }
 {
-    if !long_enough(n, period, deadline, steps) {
+    if !long_enough(n, a, b, c) {
         return false;
     }
     let mut i: usize = 0;
     while i < n {
-        if !task_right(period[i], deadline[i], steps[i]) {
-            return false;
-        }
-        i += 1;
-    }
-    true
-}
-
-fn row_right(processors: u64, processor: u64, priority: u64, time: u64) -> bool
-    ensures { λ r. ⌜ r ≡ rowRight processors processor priority time ⌝ }
-{
-    if !in_range(keys::PROCESSOR, processors, processor) {
-        return false;
-    }
-    if !in_range(keys::PRIORITY, 0, priority) {
-        return false;
-    }
-    in_range(keys::TIME, 0, time)
-}
-
-fn rows_right(n: usize, processors: u64, processor: &[u64], priority: &[u64], time: &[u64]) -> bool
-    ensures { λ r. ⌜ r ≡ rowsRight n processors (now (processor .entry)) (now (priority .entry)) (now (time .entry)) ⌝ }
-{
-    if !long_enough(n, processor, priority, time) {
-        return false;
-    }
-    let mut i: usize = 0;
-    while i < n {
-        if !row_right(processors, processor[i], priority[i], time[i]) {
+        if !entry_right(key, own, a[i], b[i], c[i]) {
             return false;
         }
         i += 1;
@@ -116,14 +92,21 @@ pub fn is_plan(
     if !in_range(keys::TASKS, 0, tasks) {
         return false;
     }
-    if !tasks_right(tasks as usize, period, deadline, steps) {
+    if !entries_right(tasks as usize, keys::PERIOD, 0, period, deadline, steps) {
         return false;
     }
     let rows = steps_in_all(tasks as usize, steps);
     if MOST_ROWS < rows {
         return false;
     }
-    rows_right(rows as usize, processors, processor, priority, time)
+    entries_right(
+        rows as usize,
+        keys::PROCESSOR,
+        processors,
+        processor,
+        priority,
+        time,
+    )
 }
 
 // How many rows a plan has, or why a table has none.

@@ -14,7 +14,7 @@ use Rattle.facts.specs.Rounding.{ceil}
 use Rattle.facts.specs.LeastLaws.{iterate}
 use Rattle.facts.specs.Filled.{tab}
 use Rattle.table.specs.Ranges.{ranges, rangeOf, inRange}
-use Rattle.table.specs.Table.{Table, at, firstRow, rows, taskRight, rowRight, longEnough, tasksRight, rowsRight, isPlan}
+use Rattle.table.specs.Table.{Table, at, firstRow, rows, entryRight, longEnough, entriesRight, isPlan}
 use Rattle.table.specs.TableLaws.{checked}
 use Rattle.table.specs.Plan.{taskOf, cost, planOf, inForce}
 use Rattle.table.specs.PlanLaws.{right-of}
@@ -100,7 +100,7 @@ record RunOfTask2 (T : Table) (before afterwards : List Call) (ticks released co
   completed-are : at (after T (leftAfter T before) afterwards .completed) (lastRow T 1) ≡ completed
 
 computed : RunOfTask2 paperPlan (Call.arrival 1 ∷ []) fullTimes 5 1 0 × RunOfTask2 lighterPlan callsBefore callsAfterwards 6 1 1
-unfolding paperPlan lighterPlan leftOver fullTimes callsBefore callsAfterwards outcomeOf isTaken after ticksBy ticksTaken lastRow freshStart hasTask arrive isDone wrongDone usedUp releasedByte tick firstFits laterFits rowFits fits start arrived worked idle opened due letGo beforeRelease ticked isOpen better best running runs momentOf stateWith taskOf cost planOf firstRow rows taskRight rowRight longEnough tasksRight rowsRight isPlan ranges rangeOf inRange tab all lowest sum sumIf
+unfolding paperPlan lighterPlan leftOver fullTimes callsBefore callsAfterwards outcomeOf isTaken after ticksBy ticksTaken lastRow freshStart hasTask arrive isDone wrongDone usedUp releasedByte tick firstFits laterFits rowFits fits start arrived worked idle opened due letGo beforeRelease ticked isOpen better best running runs momentOf stateWith taskOf cost planOf firstRow rows entryRight longEnough entriesRight isPlan ranges rangeOf inRange tab all lowest sum sumIf
 computed = (
   record { taken = refl; ticks-are = refl; released-are = refl; completed-are = refl },
   record { taken = refl; ticks-are = refl; released-are = refl; completed-are = refl },
@@ -125,7 +125,7 @@ lent = record {
 }
 
 plans : (isPlan paperPlan ≡ true) × (isPlan lighterPlan ≡ true)
-unfolding paperPlan lighterPlan isPlan inRange rangeOf ranges tasksRight taskRight rowsRight rowRight longEnough rows firstRow all sum
+unfolding paperPlan lighterPlan isPlan inRange rangeOf ranges entriesRight entryRight longEnough rows firstRow all sum
 plans = (refl, refl)
 
 paper-rows : (r : ℕ) → r < 4 → RowBounds (equations paperPlan r) (paperNumbers .busy r) (paperNumbers .instances r) (paperNumbers .bound r)

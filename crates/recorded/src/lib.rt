@@ -1,5 +1,7 @@
 // A table held as records in lent lists, written, bounded, reported and read.
 
+mod sheet;
+
 use bounds::Bounded;
 use columns::columns::Chain;
 use columns::columns::Row;
@@ -9,7 +11,6 @@ use records::apart::columns_of;
 use records::fill::lay_chains;
 use records::fill::lay_rows;
 use report::Reporting;
-use sheets::sheet;
 ghost use mathlib.Core.Path.{_≡_};
 ghost use Rattle.planfile.specs.Writing as planfile;
 ghost use Rattle.planfile.specs.Writing.{WriteOutcome};
@@ -63,7 +64,7 @@ pub fn bound(
 pub fn read(file: &[u8], chains: &mut [Chain], rows: &mut [Row]) -> Reading
     ensures { λ r. ⌜ _≡_ {A = RecordsOutcome} (record { answer = r; chains = now (chains .exit); rows = now (rows .exit) }) (recordsRead (now (file .entry)) (now (chains .entry)) (now (rows .entry))) ⌝ }
 {
-    let read = sheet::read(file, chains.len(), rows.len());
+    let read = sheets::sheet::read(file, chains.len(), rows.len());
     let columns = sheet::columns_of(read);
     lay_chains(chains, sheet::chains_of(read), columns);
     lay_rows(rows, sheet::rows_of(read), columns);

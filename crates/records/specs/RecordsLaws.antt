@@ -13,10 +13,10 @@ use Rattle.facts.specs.FilledLaws.{filled-more, length-filled, getD-filled, get
 use Rattle.facts.specs.SumsLaws.{sum-ext}
 use Rattle.facts.specs.Tests.{all}
 use Rattle.facts.specs.TestsLaws.{all-fails, and-false, all-ext}
-use Rattle.table.specs.Keys.{processorsKey, tasksKey}
+use Rattle.table.specs.Keys.{processorsKey, tasksKey, periodKey, processorKey}
 use Rattle.table.specs.Ranges.{ranges, rangeOf, inRange}
 use Rattle.table.specs.RangesLaws.{within-of}
-use Rattle.table.specs.Table.{Table, tableOf, at, mostRows, isPlan, tasksRight, rowsRight, taskRight, rowRight, longEnough, firstRow}
+use Rattle.table.specs.Table.{Table, tableOf, at, mostRows, isPlan, entriesRight, entryRight, longEnough, firstRow}
 use Rattle.table.specs.Table as table
 use Rattle.table.specs.TableLaws.{long-true}
 use Rattle.columns.specs.Columns.{withChain, withRow}
@@ -116,20 +116,20 @@ module _ (processors tasks : ℕ) (chains : List Chain) (rows : List Row) where
   abbrev listed : Table
   listed = listsTable processors tasks chains rows
 
-  tasks-same : tasks ≤ 32 → tasksRight tasks (held .period) (held .deadline) (held .steps) ≡ tasksRight tasks (listed .period) (listed .deadline) (listed .steps)
-  unfolding tasksRight taskRight inRange rangeOf ranges
+  tasks-same : tasks ≤ 32 → entriesRight tasks periodKey 0 (held .period) (held .deadline) (held .steps) ≡ entriesRight tasks periodKey 0 (listed .period) (listed .deadline) (listed .steps)
+  unfolding entriesRight entryRight inRange rangeOf ranges
   tasks-same h =
-      tests-same taskRight refl tasks 32 (length chains) h (held .period) (held .deadline) (held .steps) (listed .period) (listed .deadline) (listed .steps)
+      tests-same (entryRight periodKey 0) refl tasks 32 (length chains) h (held .period) (held .deadline) (held .steps) (listed .period) (listed .deadline) (listed .steps)
       (column-same (λ c. c .period) noChain refl chains 32) (column-same (λ c. c .deadline) noChain refl chains 32) (column-same (λ c. c .steps) noChain refl chains 32)
 
   count-same : tasks ≤ 32 → table.rows held ≡ table.rows listed
   unfolding table.rows firstRow
   count-same h = sum-ext tasks {f = at (held .steps)} {g = at (listed .steps)} (λ i l. column-same (λ c. c .steps) noChain refl chains 32 .each i (omega arith))
 
-  rows-same : (n : ℕ) → n ≤ 128 → rowsRight n processors (held .processor) (held .priority) (held .time) ≡ rowsRight n processors (listed .processor) (listed .priority) (listed .time)
-  unfolding rowsRight rowRight inRange rangeOf ranges
+  rows-same : (n : ℕ) → n ≤ 128 → entriesRight n processorKey processors (held .processor) (held .priority) (held .time) ≡ entriesRight n processorKey processors (listed .processor) (listed .priority) (listed .time)
+  unfolding entriesRight entryRight inRange rangeOf ranges
   rows-same n h =
-      tests-same (rowRight processors) refl n 128 (length rows) h (held .processor) (held .priority) (held .time) (listed .processor) (listed .priority) (listed .time)
+      tests-same (entryRight processorKey processors) refl n 128 (length rows) h (held .processor) (held .priority) (held .time) (listed .processor) (listed .priority) (listed .time)
       (column-same (λ r. r .processor) noRow refl rows 128) (column-same (λ r. r .priority) noRow refl rows 128) (column-same (λ r. r .time) noRow refl rows 128)
 
   most-tasks : inRange tasksKey 0 tasks ≡ true → tasks ≤ 32
@@ -141,5 +141,5 @@ module _ (processors tasks : ℕ) (chains : List Chain) (rows : List Row) where
   unfolding isPlan
   records-plan =
       ap (λ (x : Bool). inRange processorsKey 0 processors && x) (and-same (inRange tasksKey 0 tasks) (λ e. (let h : tasks ≤ 32 = most-tasks e in
-      rw (tasks-same h, count-same h) (ap (λ (x : Bool). tasksRight tasks (listed .period) (listed .deadline) (listed .steps) && x)
+      rw (tasks-same h, count-same h) (ap (λ (x : Bool). entriesRight tasks periodKey 0 (listed .period) (listed .deadline) (listed .steps) && x)
       (and-same (leb (table.rows listed) mostRows) (λ d. rows-same (table.rows listed) (leb-true (table.rows listed) mostRows d)))))))

@@ -13,7 +13,7 @@ ghost use mathlib.Core.Path.{_≡_};
 ghost use Rattle.records.specs.Records.{columnsOf, withChains, withRows};
 
 // The columns with these records of tasks, the first 32 at most.
-pub fn with_chains(columns: Columns, chains: &[Chain]) -> Columns
+fn with_chains(columns: Columns, chains: &[Chain]) -> Columns
     ensures { λ r. ⌜ r ≡ withChains columns (now (chains .entry)) ⌝ }
 {
     let count = lesser(chains.len(), 32);
@@ -28,7 +28,7 @@ pub fn with_chains(columns: Columns, chains: &[Chain]) -> Columns
 }
 
 // The columns with these records of rows, the first 128 at most.
-pub fn with_rows(columns: Columns, rows: &[Row]) -> Columns
+fn with_rows(columns: Columns, rows: &[Row]) -> Columns
     ensures { λ r. ⌜ r ≡ withRows columns (now (rows .entry)) ⌝ }
 {
     let count = lesser(rows.len(), 128);

@@ -120,33 +120,3 @@ pub fn read(file: &[u8], chains: usize, rows: usize) -> Sheet
     }
     read_file(file)
 }
-
-// The answer of a sheet.
-pub fn answer_of(sheet: Sheet) -> Reading
-    ensures { λ r. ⌜ r ≡ sheet .answer ⌝ }
-{
-    let answer = sheet.answer;
-    answer
-}
-
-// The table of a sheet.
-pub fn columns_of(sheet: Sheet) -> Columns
-    ensures { λ r. ⌜ r ≡ sheet .columns ⌝ }
-{
-    let columns = sheet.columns;
-    columns
-}
-
-// How many chain records are to be laid.
-pub fn chains_of(sheet: Sheet) -> usize
-    ensures { λ r. ⌜ r ≡ sheet .chains ⌝ }
-{
-    sheet.chains
-}
-
-// How many row records are to be laid.
-pub fn rows_of(sheet: Sheet) -> usize
-    ensures { λ r. ⌜ r ≡ sheet .rows ⌝ }
-{
-    sheet.rows
-}

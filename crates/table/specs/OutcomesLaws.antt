@@ -3,14 +3,10 @@ use Prim.Native.Nat.{ℕ}
 use mathlib.Core.Path.{_≡_}
 use mathlib.Core.Bool.{Bool}
 use Rattle.facts.specs.OutcomesLaws.{equation-one}
-use Rattle.table.specs.declared.ranges.Range.{Range}
 use Rattle.table.specs.declared.refusal.Refusal.{Refusal}
 use Rattle.table.specs.Plan.{deadlineFrom}
-use Rattle.table.specs.Ranges.{rangeOf, inRange}
+use Rattle.table.specs.Ranges.{inRange}
 use Rattle.table.specs.Refusals.{numberOf, placeOf}
-
-pub range-of-one : (key own : ℕ) {x y : Range} → x ≡ rangeOf key own → y ≡ rangeOf key own → x ≡ y
-range-of-one key own = equation-one
 
 pub in-range-one : (key own value : ℕ) {x y : Bool} → x ≡ inRange key own value → y ≡ inRange key own value → x ≡ y
 in-range-one key own value = equation-one

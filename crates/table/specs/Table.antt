@@ -1,12 +1,12 @@
 -- A table and the test that it is a plan (document 01, "The plan on paper").
-use Prim.Native.Nat.{ℕ}
+use Prim.Native.Nat.{ℕ, _+_}
 use mathlib.Core.Bool.{Bool, _&&_}
 use mathlib.Core.List.{List}
 use lib.Dec.{leb}
 use lib.ListN.{length, getD}
 use Rattle.facts.specs.Sums.{sum}
 use Rattle.facts.specs.Tests.{all}
-use Rattle.table.specs.Keys.{processorsKey, tasksKey, periodKey, deadlineKey, stepsKey, processorKey, priorityKey, timeKey}
+use Rattle.table.specs.Keys.{processorsKey, tasksKey, periodKey, processorKey}
 use Rattle.table.specs.Ranges.{inRange}
 
 -- A table: its counts, a list for each number of a task, and a list for each number of a row.
@@ -49,35 +49,24 @@ rows T = firstRow T (T .tasks)
 abbrev pub mostRows : ℕ
 mostRows = 128
 
--- The values of a task are in their ranges.
-unfoldable pub taskRight : ℕ → ℕ → ℕ → Bool
-taskRight period deadline steps =
-    inRange periodKey 0 period && (inRange deadlineKey 0 deadline && inRange stepsKey 0 steps)
-
--- The values of a row are in their ranges, in a plan of so many processors.
-unfoldable pub rowRight : ℕ → ℕ → ℕ → ℕ → Bool
-rowRight processors processor priority time =
-    inRange processorKey processors processor && (inRange priorityKey 0 priority && inRange timeKey 0 time)
+-- Three values are in the ranges of a key and of the two keys after it: those of a task from `period` on, those of a row
+-- from `processor` on.
+unfoldable pub entryRight : ℕ → ℕ → ℕ → ℕ → ℕ → Bool
+entryRight key own a b c = inRange key own a && (inRange (key + 1) own b && inRange (key + 2) own c)
 
 -- The three lists have n entries at least.
 unfoldable pub longEnough : ℕ → List ℕ → List ℕ → List ℕ → Bool
 longEnough n a b c = leb n (length a) && (leb n (length b) && leb n (length c))
 
--- The lists have n tasks, all right.
-unfoldable pub tasksRight : ℕ → List ℕ → List ℕ → List ℕ → Bool
-tasksRight n period deadline steps =
-    longEnough n period deadline steps && all n (λ i. taskRight (at period i) (at deadline i) (at steps i))
-
--- The lists have n rows, all right in a plan of so many processors.
-unfoldable pub rowsRight : ℕ → ℕ → List ℕ → List ℕ → List ℕ → Bool
-rowsRight n processors processor priority time =
-    longEnough n processor priority time && all n (λ r. rowRight processors (at processor r) (at priority r) (at time r))
+-- The lists have n entries, all right.
+unfoldable pub entriesRight : ℕ → ℕ → ℕ → List ℕ → List ℕ → List ℕ → Bool
+entriesRight n key own a b c = longEnough n a b c && all n (λ i. entryRight key own (at a i) (at b i) (at c i))
 
 -- The table is a plan by the ranges: no value is missing or outside its range, and there are at most 128 rows.
 unfoldable pub isPlan : Table → Bool
 isPlan T =
     inRange processorsKey 0 (T .processors)
     && (inRange tasksKey 0 (T .tasks)
-    && (tasksRight (T .tasks) (T .period) (T .deadline) (T .steps)
+    && (entriesRight (T .tasks) periodKey 0 (T .period) (T .deadline) (T .steps)
     && (leb (rows T) mostRows
-    && rowsRight (rows T) (T .processors) (T .processor) (T .priority) (T .time))))
+    && entriesRight (rows T) processorKey (T .processors) (T .processor) (T .priority) (T .time))))

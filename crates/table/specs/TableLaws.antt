@@ -10,7 +10,7 @@ use Rattle.facts.specs.TestsLaws.{and-left, and-right, and-true, all-at}
 use Rattle.table.specs.Keys.{processorsKey, tasksKey, periodKey, deadlineKey, stepsKey, processorKey, priorityKey, timeKey}
 use Rattle.table.specs.Ranges.{inRange, rangeOf, ranges}
 use Rattle.table.specs.RangesLaws.{Within, within-of}
-use Rattle.table.specs.Table.{Table, at, rows, mostRows, taskRight, rowRight, longEnough, tasksRight, rowsRight, isPlan}
+use Rattle.table.specs.Table.{Table, at, rows, mostRows, entryRight, longEnough, entriesRight, isPlan}
 
 -- The three lists have n entries at least.
 pub record Long (n : ℕ) (a b c : List ℕ) : Type 0 where
@@ -48,8 +48,8 @@ pub record RowWithin (processors processor priority time : ℕ) : Type 0 where
   pub time-least : 1 ≤ time
   pub time-most : time ≤ 1000000
 
-pub task-within : (period deadline steps : ℕ) → taskRight period deadline steps ≡ true → TaskWithin period deadline steps
-unfolding taskRight rangeOf ranges
+pub task-within : (period deadline steps : ℕ) → entryRight periodKey 0 period deadline steps ≡ true → TaskWithin period deadline steps
+unfolding entryRight rangeOf ranges
 task-within p d s e =
     let r : inRange deadlineKey 0 d && inRange stepsKey 0 s ≡ true = and-right (inRange periodKey 0 p) _ e in
     let wp : Within periodKey 0 p = within-of _ _ _ (and-left (inRange periodKey 0 p) _ e) in
@@ -63,13 +63,13 @@ task-within p d s e =
       steps-most = ws .most;
     }
 
-pub row-within : (processors processor priority time : ℕ) → rowRight processors processor priority time ≡ true → RowWithin processors processor priority time
-unfolding rowRight rangeOf ranges
+pub row-within : (processors processor priority time : ℕ) → entryRight processorKey processors processor priority time ≡ true → RowWithin processors processor priority time
+unfolding entryRight rangeOf ranges
 row-within n p u t e =
-    let r : inRange priorityKey 0 u && inRange timeKey 0 t ≡ true = and-right (inRange processorKey n p) _ e in
+    let r : inRange priorityKey n u && inRange timeKey n t ≡ true = and-right (inRange processorKey n p) _ e in
     let wp : Within processorKey n p = within-of _ _ _ (and-left (inRange processorKey n p) _ e) in
-    let wu : Within priorityKey 0 u = within-of _ _ _ (and-left (inRange priorityKey 0 u) _ r) in
-    let wt : Within timeKey 0 t = within-of _ _ _ (and-right (inRange priorityKey 0 u) _ r) in
+    let wu : Within priorityKey n u = within-of _ _ _ (and-left (inRange priorityKey n u) _ r) in
+    let wt : Within timeKey n t = within-of _ _ _ (and-right (inRange priorityKey n u) _ r) in
     record {
       processor-least = wp .least;
       processor-most = wp .most;
@@ -84,11 +84,11 @@ pub record TasksWithin (n : ℕ) (period deadline steps : List ℕ) : Type 0 whe
   pub long : Long n period deadline steps
   pub each : (i : ℕ) → i < n → TaskWithin (at period i) (at deadline i) (at steps i)
 
-pub tasks-within : (n : ℕ) (period deadline steps : List ℕ) → tasksRight n period deadline steps ≡ true → TasksWithin n period deadline steps
-unfolding tasksRight
+pub tasks-within : (n : ℕ) (period deadline steps : List ℕ) → entriesRight n periodKey 0 period deadline steps ≡ true → TasksWithin n period deadline steps
+unfolding entriesRight
 tasks-within n p d s e = record {
   long = long-of n p d s (and-left (longEnough n p d s) _ e);
-  each = λ i l. task-within _ _ _ (all-at n (λ i. taskRight (at p i) (at d i) (at s i)) (and-right (longEnough n p d s) _ e) i l);
+  each = λ i l. task-within _ _ _ (all-at n (λ i. entryRight periodKey 0 (at p i) (at d i) (at s i)) (and-right (longEnough n p d s) _ e) i l);
 }
 
 -- What a table that is a plan keeps to.
@@ -103,13 +103,13 @@ pub record Checked (T : Table) : Type 0 where
   pub row : (r : ℕ) → r < rows T → RowWithin (T .processors) (at (T .processor) r) (at (T .priority) r) (at (T .time) r)
 
 pub checked : (T : Table) → isPlan T ≡ true → Checked T
-unfolding isPlan rowsRight rangeOf ranges
+unfolding isPlan entriesRight rangeOf ranges
 checked T e =
     let wp : Within processorsKey 0 (T .processors) = within-of _ _ _ (and-left (inRange processorsKey 0 (T .processors)) _ e) in
     let e₁ = and-right (inRange processorsKey 0 (T .processors)) _ e in
     let wt : Within tasksKey 0 (T .tasks) = within-of _ _ _ (and-left (inRange tasksKey 0 (T .tasks)) _ e₁) in
     let e₂ = and-right (inRange tasksKey 0 (T .tasks)) _ e₁ in
-    let tr : Bool = tasksRight (T .tasks) (T .period) (T .deadline) (T .steps) in
+    let tr : Bool = entriesRight (T .tasks) periodKey 0 (T .period) (T .deadline) (T .steps) in
     let e₃ = and-right tr _ e₂ in
     let e₄ = and-right (leb (rows T) mostRows) _ e₃ in
     let long : Bool = longEnough (rows T) (T .processor) (T .priority) (T .time) in
@@ -121,5 +121,5 @@ checked T e =
       tasks = tasks-within _ _ _ _ (and-left tr _ e₂);
       rows-most = leb-true _ _ (and-left (leb (rows T) mostRows) _ e₃);
       row-lists = long-of _ _ _ _ (and-left long _ e₄);
-      row = λ r l. row-within _ _ _ _ (all-at (rows T) (λ r. rowRight (T .processors) (at (T .processor) r) (at (T .priority) r) (at (T .time) r)) (and-right long _ e₄) r l);
+      row = λ r l. row-within _ _ _ _ (all-at (rows T) (λ r. entryRight processorKey (T .processors) (at (T .processor) r) (at (T .priority) r) (at (T .time) r)) (and-right long _ e₄) r l);
     }

@@ -36,7 +36,7 @@ const RANGES: [Range; 10] = [
 ];
 
 // The range of a key. The plan's own number is the next task's number for `task`, the plan's processors for `processor`.
-pub fn range_of(key: usize, own: u64) -> Range
+fn range_of(key: usize, own: u64) -> Range
     ensures { λ r. ⌜ r ≡ rangeOf key own ⌝ }
 {
     if key == keys::TASK {

@@ -6,7 +6,7 @@ ghost use Rattle.text.specs.Text.{Written, appended, decimal};
 use crate::append;
 
 // Appends the digits of the value, with no leading zero.
-pub fn append_decimal(out: &mut [u8], at: usize, value: u64) -> usize
+pub(crate) fn append_decimal(out: &mut [u8], at: usize, value: u64) -> usize
     ensures { λ r. ⌜ _≡_ {A = Written} (record { list = now (out .exit); end = r }) (appended (decimal value) (now (out .entry)) at) ⌝ }
 {
     let mut buffer = [0u8; 20];

@@ -2,7 +2,7 @@
 // the list has room, and answers the place behind the last byte that it wrote.
 mod decimal;
 
-pub use decimal::append_decimal;
+use decimal::append_decimal;
 ghost use mathlib.Core.Path.{_≡_};
 ghost use mathlib.Core.List.{[], _∷_, _++_};
 ghost use Rattle.text.specs.Text.{Written, appended, decimal, line, minusLine};

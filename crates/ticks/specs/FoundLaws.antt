@@ -71,14 +71,6 @@ module _ (P : Plan) (test : ℕ → Bool) where
   found-more n p v w e l ev =
       tab-set 0 (λ x. best P test x n) (λ x. best P test x (n + 1)) w p v l (ev ∙ sym (here n p e)) (λ x a d. elsewhere n p x e d)
 
--- On a processor that no row has, nothing is found.
-pub best-nowhere : (P : Plan) (test : ℕ → Bool) (x n : ℕ) → ((r : ℕ) → r < n → P .processor r ≡ x → ⊥) → best P test x n ≡ 0
-unfolding best
-best-nowhere P test x zero h = refl
-best-nowhere P test x (suc n) h =
-    let e : best P test x n ≡ 0 = best-nowhere P test x n (λ r l. h r (omega arith)) in
-    rw (ne-eqb (P .processor n) x (h n (omega arith))) e
-
 -- The search reads processors and priorities, and the test below n.
 pub best-ext :
     (P Q : Plan) → ((r : ℕ) → P .processor r ≡ Q .processor r) → ((r : ℕ) → P .priority r ≡ Q .priority r)

@@ -1,6 +1,5 @@
 pub mod Steps
 pub mod FoundLaws
-pub mod PlacedLaws
 pub mod Done
 pub mod TurnLaws
 pub mod BusyLaws

@@ -8,10 +8,9 @@ use Rattle.table.specs.Table.{at}
 use Rattle.table.specs.Plan.{Plan}
 use Rattle.table.specs.Refusals.{lastClock}
 use Rattle.guards.specs.declared.state.State.{State}
-use Rattle.guards.specs.declared.rows.Rows.{Rows}
 use Rattle.guards.specs.Moment.{Moment, momentOf}
 use Rattle.guards.specs.Machine.{opened, letGo}
-use Rattle.guards.specs.Rows.{planFrom}
+use Rattle.guards.specs.Rows.{Rows, planFrom}
 use Rattle.guards.specs.Calls.{isDone}
 use Rattle.guards.specs.Lent.{Long}
 

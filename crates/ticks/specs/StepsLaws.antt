@@ -9,10 +9,9 @@ use Rattle.facts.specs.FilledLaws.{getD-tab, filled-ext}
 use Rattle.table.specs.Table.{at}
 use Rattle.table.specs.Plan.{Plan}
 use Rattle.guards.specs.declared.state.State.{State}
-use Rattle.guards.specs.declared.rows.Rows.{Rows}
 use Rattle.guards.specs.Moment.{Moment, momentOf, stateWith}
 use Rattle.guards.specs.Machine.{idle, opened, due, letGo}
-use Rattle.guards.specs.Rows.{planFrom}
+use Rattle.guards.specs.Rows.{Rows, planFrom}
 use Rattle.guards.specs.Lent.{Long, stateOf}
 use Rattle.guards.specs.ListsLaws.{filled-own}
 use Rattle.ticks.specs.Steps.{Placed, Releasing, Stepping, chains, completedIn, usedIn, guardIn, ran, runsIn, endsIn, openedWhere, firstIn, idleIn, readied, stepped}

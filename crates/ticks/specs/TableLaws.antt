@@ -16,12 +16,11 @@ use Rattle.table.specs.PlanLaws.{small-of}
 use Rattle.table.specs.Refusals.{lastClock}
 use Rattle.table.specs.declared.refusal.Refusal.the-variants.{NotAPlan, TooShort, WrongDoneLength, WrongDoneByte, TimeUsedUp, ClockAtEnd, StateDoesNotFit}
 use Rattle.guards.specs.declared.state.State.{State}
-use Rattle.guards.specs.declared.rows.Rows.{Rows}
 use Rattle.guards.specs.Moment.{Moment, momentOf, stateWith}
 use Rattle.guards.specs.Running.{isOpen, best, running, runs}
 use Rattle.guards.specs.Machine.{worked, beforeRelease, due, ticked}
 use Rattle.guards.specs.Fits.{fits}
-use Rattle.guards.specs.Rows.{planFrom}
+use Rattle.guards.specs.Rows.{Rows, planFrom}
 use Rattle.guards.specs.Calls.{TickOutcome, isDone, releasedByte, stays, taken, tick, usedUp, wrongDone}
 use Rattle.guards.specs.LentLaws.{held, rows-fit-lent, tick-lent-no-plan, tick-lent-short, tick-lent-held}
 use Rattle.guards.specs.LentCalls.{leaves, fitsHeld, fits-held, fits-fits}

@@ -13,10 +13,9 @@ use Rattle.table.specs.Refusals.{lastClock}
 use Rattle.table.specs.declared.refusal.Refusal.the-variants.{TooShort, WrongDoneLength, WrongDoneByte, TimeUsedUp, ClockAtEnd, StateDoesNotFit}
 use Rattle.guards.specs.declared.state.State.{State}
 use Rattle.guards.specs.declared.state.Outcome.{Outcome}
-use Rattle.guards.specs.declared.rows.Rows.{Rows}
 use Rattle.guards.specs.Moment.{momentOf, stateWith}
 use Rattle.guards.specs.Machine.{beforeRelease, due, ticked}
-use Rattle.guards.specs.Rows.{planFrom}
+use Rattle.guards.specs.Rows.{Rows, planFrom}
 use Rattle.guards.specs.BoundsLaws.{Bounded}
 use Rattle.guards.specs.Lent.{Long, rowsFitIn}
 use Rattle.guards.specs.Calls.{TickOutcome, isDone, stays, taken, usedUp, wrongDone}

@@ -13,11 +13,10 @@ use Rattle.facts.specs.FilledLaws.{getD-tab, filled-ext, length-tab}
 use Rattle.table.specs.Table.{at}
 use Rattle.table.specs.Plan.{Plan}
 use Rattle.guards.specs.declared.state.State.{State}
-use Rattle.guards.specs.declared.rows.Rows.{Rows}
 use Rattle.guards.specs.Moment.{Moment, momentOf, stateWith}
 use Rattle.guards.specs.Running.{isOpen, best, running, runs}
 use Rattle.guards.specs.Machine.{worked, opened, beforeRelease, due, letGo, ticked}
-use Rattle.guards.specs.Rows.{planFrom}
+use Rattle.guards.specs.Rows.{Rows, planFrom}
 use Rattle.guards.specs.Calls.{isDone, taken, wrongDone, usedUp}
 use Rattle.guards.specs.Lent.{stateOf, outcomeOf, refusedAt, takenAt, stand, rowsFitIn}
 use Rattle.guards.specs.LentCalls.{leaves}
@@ -71,13 +70,13 @@ module _ (R : Rows) (processor priority time : List ℕ) (σ : State) {list : Li
       ap (λ (k : List ℕ). at k x) e ∙ getD-tab _ 17 x 0 (omega arith)
       ∙ best-ext _ plan (λ r. refl) (λ r. refl) (isOpen (momentOf σ)) (isOpen (momentOf σ)) x (R .count) (λ r b. refl)
 
-  pub wrong-lowest :
+  wrong-lowest :
       (n : ℕ) (done : List ℕ) → n ≤ 16
       → lowest n (λ i. wrongHere (at done i) (at list (suc i))) ≡ lowest n (wrongDone plan (momentOf σ) done)
   unfolding wrongHere wrongDone
   wrong-lowest n done l = lowest-ext n (λ i b. rw (running-here (suc i) (omega arith)))
 
-  pub up-lowest :
+  up-lowest :
       (n : ℕ) (done : List ℕ) → n ≤ 16
       → lowest n (λ i. upHere (σ .used) time (at done i) (at list (suc i))) ≡ lowest n (usedUp plan (momentOf σ) done)
   unfolding upHere usedUp momentOf
@@ -155,14 +154,14 @@ module _ (R : Rows) (processor priority time : List ℕ) (σ : State) {list : Li
     readied-is done = opened-same (worked-is done) chained
 
     -- and so are all five.
-    pub ticked-made :
+    ticked-made :
         (done : List ℕ)
         → stateWith (R .count) (stepped R processor list done σ) σ
         ≡ stateWith (R .count) (ticked plan (momentOf σ) (isDone done)) σ
     unfolding stepped ticked
     ticked-made done = with-same (let-go-same (readied-is done) chained) σ
 
-    pub bytes-ticked :
+    bytes-ticked :
         (done released : List ℕ)
         → filled (λ r. cond (due (chains R processor) (readied R processor list done σ) r) 1 0) (R .count) released
         ≡ filled (λ r. cond (due plan (beforeRelease plan (momentOf σ) (isDone done)) r) 1 0) (R .count) released
@@ -177,21 +176,21 @@ module _ (processors : ℕ) (P : Plan) (σ : State) (done out : List ℕ) where
   clock-end e l = ap (λ (o : Called). told out (leaves σ o)) e ∙ rw (eq-eqb _ _ l)
 
   module _ (n : σ .clock ≡ lastClock → ⊥) {w : ℕ} (f : w ≡ lowest processors (wrongDone P (momentOf σ) done)) where
-    pub done-wrong :
+    done-wrong :
         {o : Called} → o ≡ refusedAt (WrongDoneByte (w + 1)) (σ .clock) → w < processors
         → told out (leaves σ o) ≡ clockTick processors P σ done out
     unfolding clockTick doneTick
     done-wrong e l = ap (λ (o : Called). told out (leaves σ o)) e ∙ rw (ne-eqb _ _ n, ← f, lt-ltb _ _ l)
 
     module _ (l : processors ≤ w) where
-      pub done-up :
+      done-up :
           {o : Called} {u : ℕ} → o ≡ refusedAt (TimeUsedUp (u + 1)) (σ .clock)
           → u ≡ lowest processors (usedUp P (momentOf σ) done) → u < processors
           → told out (leaves σ o) ≡ clockTick processors P σ done out
       unfolding clockTick doneTick
       done-up e g m = ap (λ (o : Called). told out (leaves σ o)) e ∙ rw (ne-eqb _ _ n, ← f, le-ltb _ _ l, ← g, lt-ltb _ _ m)
 
-      pub done-made :
+      done-made :
           {o : Called} {u : ℕ} {released completed used guard bytes : List ℕ} → o ≡ takenAt (σ .clock + 1) (σ .clock + 1)
           → u ≡ lowest processors (usedUp P (momentOf σ) done) → processors ≤ u
           → stateOf (σ .clock + 1) released completed used guard ≡ stateWith (P .rows) (ticked P (momentOf σ) (isDone done)) σ
@@ -201,3 +200,38 @@ module _ (processors : ℕ) (P : Plan) (σ : State) (done out : List ℕ) where
       done-made {o} {u} {released} {completed} {used} {guard} {bytes} e g m state list =
           ap (λ (o : Called). told bytes (outcomeOf o released completed used guard)) e
           ∙ rw (ne-eqb _ _ n, ← f, le-ltb _ _ l, ← g, le-ltb _ _ m) (λ i. record { outcome = taken (σ .clock + 1) (state i); released = list i })
+
+-- The same of what is found by the list of running rows, and of what the steps by it make.
+module _
+    (R : Rows) (processors : ℕ) (processor priority time : List ℕ) (σ : State) {list : List ℕ}
+    (e : list ≡ tab (running (planFrom (R .count) [] [] processor priority []) (momentOf σ)) 17)
+    (ready : Ready R processors processor priority time σ) (done out : List ℕ) (n : σ .clock ≡ lastClock → ⊥) {w : ℕ}
+    (f : w ≡ lowest processors (λ i. wrongHere (at done i) (at list (suc i)))) where
+  abbrev whole : Plan
+  whole = planFrom (R .count) (R .period) (R .first) processor priority time
+
+  wrong-is : w ≡ lowest processors (wrongDone whole (momentOf σ) done)
+  wrong-is = f ∙ wrong-lowest R processor priority time σ e processors done (ready .listed .processors-most)
+
+  pub list-wrong :
+      {o : Called} → o ≡ refusedAt (WrongDoneByte (w + 1)) (σ .clock) → w < processors
+      → told out (leaves σ o) ≡ clockTick processors whole σ done out
+  list-wrong a m = done-wrong processors whole σ done out n wrong-is a m
+
+  module _ (l : processors ≤ w) {u : ℕ} (g : u ≡ lowest processors (λ i. upHere (σ .used) time (at done i) (at list (suc i)))) where
+    up-is : u ≡ lowest processors (usedUp whole (momentOf σ) done)
+    up-is = g ∙ up-lowest R processor priority time σ e processors done (ready .listed .processors-most)
+
+    pub list-up :
+        {o : Called} → o ≡ refusedAt (TimeUsedUp (u + 1)) (σ .clock) → u < processors
+        → told out (leaves σ o) ≡ clockTick processors whole σ done out
+    list-up a m = done-up processors whole σ done out n wrong-is l a up-is m
+
+    pub list-made :
+        {o : Called} {released completed used guard bytes : List ℕ} → o ≡ takenAt (σ .clock + 1) (σ .clock + 1) → processors ≤ u
+        → stateOf (σ .clock + 1) released completed used guard ≡ stateWith (R .count) (stepped R processor list done σ) σ
+        → bytes ≡ filled (λ r. cond (due (chains R processor) (readied R processor list done σ) r) 1 0) (R .count) out
+        → told bytes (outcomeOf o released completed used guard) ≡ clockTick processors whole σ done out
+    list-made a m state bytes =
+        done-made processors whole σ done out n wrong-is l a up-is m (state ∙ ticked-made R processor priority time σ e ready done)
+        (bytes ∙ bytes-ticked R processor priority time σ e ready done out)

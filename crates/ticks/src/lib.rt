@@ -1,8 +1,8 @@
-// The call tick (document 01, "Guards"), and which row runs.
+// The call tick (document 01, "Guards").
 
 mod choice;
 mod done;
 mod release;
-pub mod running;
+mod running;
 pub mod tick;
 mod work;

@@ -1,23 +1,16 @@
 // Which row runs on a processor.
 
-use guards::rows::rows_of;
-use guards::state::State;
 ghost use mathlib.Core.Path.{_≡_};
 ghost use mathlib.Core.Bool.{cond};
 ghost use mathlib.Core.List.{List, []};
 ghost use Prim.Native.Nat.{ℕ, _≤_, _<_};
 ghost use lib.ListN.{length};
 ghost use Rattle.facts.specs.Filled.{tab};
-ghost use Rattle.table.specs.Table.{tableOf};
 ghost use Rattle.guards.specs.Moment.{momentOf};
 ghost use Rattle.guards.specs.Lent.{stateOf};
 ghost use Rattle.guards.specs.Running.{better, running};
 ghost use Rattle.guards.specs.Rows.{planFrom};
-ghost use Rattle.guards.specs.Questions.{runningRow};
 ghost use Rattle.ticks.specs.Steps.{Placed};
-
-// The highest number that a processor may have.
-const MOST_PROCESSORS: u64 = 16;
 
 // The row to run, counted from 1, among the best so far and one candidate more: the more urgent, and of equals the best so
 // far.
@@ -57,41 +50,4 @@ pub(crate) fn running_rows(
         row += 1;
     }
     found
-}
-
-// The row that runs on a processor, counted from 1; 0 where none does, and for a table that is no plan.
-pub fn running_row(
-    processors: u64,
-    tasks: u64,
-    period: &[u64],
-    deadline: &[u64],
-    steps: &[u64],
-    processor: &[u64],
-    priority: &[u64],
-    time: &[u64],
-    state: State,
-    on: u64,
-) -> u64
-    ensures { λ r. ⌜ r ≡ runningRow (tableOf processors tasks (now (period .entry)) (now (deadline .entry)) (now (steps .entry)) (now (processor .entry)) (now (priority .entry)) (now (time .entry))) state on ⌝ }
-{
-    let rows = rows_of(
-        processors,
-        tasks,
-        period,
-        deadline,
-        steps,
-        processor,
-        priority,
-        time,
-    );
-    if rows.count == 0 {
-        return 0;
-    }
-    if MOST_PROCESSORS < on {
-        return 0;
-    }
-    let released = state.released;
-    let completed = state.completed;
-    let found = running_rows(rows.count, processor, priority, &released, &completed);
-    found[on as usize] as u64
 }

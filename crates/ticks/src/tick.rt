@@ -17,6 +17,7 @@ use table::refusal::Refusal;
 ghost use mathlib.Core.Path.{_≡_};
 ghost use mathlib.Core.Bool.{cond};
 ghost use Prim.Native.Nat.{_+_};
+ghost use lib.ListN.{length};
 ghost use Rattle.facts.specs.Filled.{filled};
 ghost use Rattle.table.specs.Table.{tableOf};
 ghost use Rattle.guards.specs.Moment.{stateWith};
@@ -167,6 +168,19 @@ fn tick_open(
     )
 }
 
+// Room for the periods of any plan's rows, and for which of them are first.
+fn period_room() -> [u64; 128]
+    ensures { λ r. ⌜ length r ≡ 128 ⌝ }
+{
+    [0u64; 128]
+}
+
+fn first_room() -> [bool; 128]
+    ensures { λ r. ⌜ length r ≡ 128 ⌝ }
+{
+    [false; 128]
+}
+
 // One tick of the state in four lists. The done list has a byte for each processor, and the release list gets one for each
 // row.
 pub fn tick_in<'a>(
@@ -188,8 +202,8 @@ pub fn tick_in<'a>(
 ) -> Called
     ensures { λ r. ⌜ _≡_ {A = TickOutcome} (record { outcome = outcomeOf r (now (released .exit)) (now (completed .exit)) (now (used .exit)) (now (guard .exit)); released = now (out .exit) }) (tickOnLists (tableOf processors tasks (now (period .entry)) (now (deadline .entry)) (now (steps .entry)) (now (processor .entry)) (now (priority .entry)) (now (time .entry))) (stateOf clock (now (released .entry)) (now (completed .entry)) (now (used .entry)) (now (guard .entry))) (now (out .entry)) (calls.tick (tableOf processors tasks (now (period .entry)) (now (deadline .entry)) (now (steps .entry)) (now (processor .entry)) (now (priority .entry)) (now (time .entry))) (stateOf clock (now (released .entry)) (now (completed .entry)) (now (used .entry)) (now (guard .entry))) (now (done .entry)) (now (out .entry)))) ⌝ }
 {
-    let mut periods = [0u64; 128];
-    let mut firsts = [false; 128];
+    let mut periods = period_room();
+    let mut firsts = first_room();
     let count = rows_in(
         processors,
         tasks,

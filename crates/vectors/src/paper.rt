@@ -11,7 +11,9 @@ use columns::columns::with_chain;
 use columns::columns::with_row;
 use guards::state::Outcome;
 use guards::state::State;
-use ticks::running::running_row;
+
+// The rows of the plan.
+pub(crate) const ROWS: usize = 4;
 
 // The table with one task more.
 fn chain(table: Columns, place: usize, period: u64, steps: u64) -> Columns {
@@ -76,44 +78,38 @@ pub(crate) fn ticked(state: State, done: &[u8], released: &mut [u8]) -> Outcome 
     tick(paper(), state, done, released)
 }
 
-// The row that runs on the processor, counted from 1; 0 where none does.
-fn runs(table: Columns, state: State, on: u64) -> u64 {
-    let period = table.period;
-    let deadline = table.deadline;
-    let steps = table.steps;
-    let processor = table.processor;
-    let priority = table.priority;
-    let time = table.time;
-    running_row(
-        table.processors,
-        table.tasks,
-        &period,
-        &deadline,
-        &steps,
-        &processor,
-        &priority,
-        &time,
-        state,
-        on,
-    )
+// Whether the row, counted from 0, has an instance open.
+fn is_open(state: State, row: usize) -> bool {
+    if ROWS <= row {
+        return false;
+    }
+    state.completed[row] < state.released[row]
 }
 
-// The done byte by which what runs on the processor takes its full time.
-pub(crate) fn full_time(state: State, on: u64) -> u8 {
+// The done byte by which the row's instance takes its full time.
+fn last_tick(state: State, row: usize) -> u8 {
+    if ROWS <= row {
+        return 0;
+    }
     let table = paper();
-    let row = runs(table, state, on);
-    if row < 1 {
-        return 0;
-    }
-    if 4 < row {
-        return 0;
-    }
-    let place = (row - 1) as usize;
-    let used = state.used[place];
-    if used < table.time[place] {
-        if table.time[place] - used == 1 {
+    let used = state.used[row];
+    let time = table.time[row];
+    if used < time {
+        if time - used == 1 {
             return 1;
         }
+    }
+    0
+}
+
+// The done byte by which what runs on a processor takes its full time, given the processor's two rows: the other one runs
+// where the urgent one has nothing open.
+pub(crate) fn full_time(state: State, urgent: usize, other: usize) -> u8 {
+    if is_open(state, urgent) {
+        return last_tick(state, urgent);
+    }
+    if is_open(state, other) {
+        return last_tick(state, other);
     }
     0
 }

@@ -82,7 +82,7 @@ fn ticks(state: State, done: &[u8]) -> State {
 
 // A tick by which all that runs takes its full time.
 fn ticks_full(state: State) -> State {
-    let done = [full_time(state, 1), full_time(state, 2)];
+    let done = [full_time(state, 0, 1), full_time(state, 2, 3)];
     ticks(state, &done)
 }
 

@@ -1,13 +1,11 @@
 // Words of the lines that are printed.
 
+use crate::paper::ROWS;
 use guards::state::State;
 use libc::STDOUT_FILENO;
 use table::refusal::Refusal;
 use table::refusal::number_of;
 use table::refusal::place_of;
-
-// The rows of document 01's plan.
-const ROWS: usize = 4;
 
 // Prints a text.
 pub(crate) fn say(text: &[u8]) {

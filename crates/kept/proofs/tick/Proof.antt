@@ -56,12 +56,12 @@ use Rattle.columns.specs.Columns.{tableIn}
 use Rattle.columns.specs.declared.columns.Columns.{Columns}
 use Rattle.columns.proofs.columns.Columns as Q
 use Rattle.columns.proofs.columns.Columns.Laws as Q′
-use Rattle.calls.proofs.outcome.state_of.Symbol as fst-def
-use Rattle.calls.proofs.outcome.state_of.Symbol.{name as #fst}
-use Rattle.calls.proofs.outcome.state_of.Met as fst-thm
-use Rattle.calls.proofs.outcome.answer_of.Symbol as snd-def
-use Rattle.calls.proofs.outcome.answer_of.Symbol.{name as #snd}
-use Rattle.calls.proofs.outcome.answer_of.Met as snd-thm
+use Rattle.kept.proofs.outcome.state_of.Symbol as fst-def
+use Rattle.kept.proofs.outcome.state_of.Symbol.{name as #fst}
+use Rattle.kept.proofs.outcome.state_of.Met as fst-thm
+use Rattle.kept.proofs.outcome.answer_of.Symbol as snd-def
+use Rattle.kept.proofs.outcome.answer_of.Symbol.{name as #snd}
+use Rattle.kept.proofs.outcome.answer_of.Met as snd-thm
 use Rattle.calls.proofs.tick.tick as core
 use Rattle.calls.proofs.tick.tick.Symbol as core-def
 use Rattle.calls.proofs.tick.tick.Symbol.{name as #core}
@@ -187,5 +187,5 @@ tick-spec 𝓤 H 𝓜 𝓖 𝓡 =
     (tables 𝓤 H 𝓜 𝓡 code.env .C) (tables 𝓤 H 𝓜 𝓡 code.env .Λ) #me code.function (code.unfolded 𝓤 H 𝓜 𝓡)
     (me-meets 𝓤 H (𝓖 .A) (givenOf 𝓤 H 𝓜 𝓖) (𝓜 .mem) (𝓡 .run) (tablesOf 𝓤 H 𝓜 (tables 𝓤 H 𝓜 𝓡 code.env))
     (cited 𝓤 H (Core 𝓤 H (𝓖 .A) (𝓜 .mem) (𝓡 .run)) 𝓜 𝓡 code.env #core core-def.routine code.calls-calls·tick·tick (core-thm.met 𝓤 H 𝓜 𝓖 𝓡))
-    (cited 𝓤 H (StateOf 𝓤 H (𝓖 .A) (𝓜 .mem) (𝓡 .run)) 𝓜 𝓡 code.env #fst fst-def.routine code.calls-calls·outcome·state-of (fst-thm.met 𝓤 H 𝓜 𝓖 𝓡))
-    (cited 𝓤 H (AnswerOf 𝓤 H (𝓖 .A) (𝓜 .mem) (𝓡 .run)) 𝓜 𝓡 code.env #snd snd-def.routine code.calls-calls·outcome·answer-of (snd-thm.met 𝓤 H 𝓜 𝓖 𝓡)))
+    (cited 𝓤 H (StateOf 𝓤 H (𝓖 .A) (𝓜 .mem) (𝓡 .run)) 𝓜 𝓡 code.env #fst fst-def.routine code.calls-kept·outcome·state-of (fst-thm.met 𝓤 H 𝓜 𝓖 𝓡))
+    (cited 𝓤 H (AnswerOf 𝓤 H (𝓖 .A) (𝓜 .mem) (𝓡 .run)) 𝓜 𝓡 code.env #snd snd-def.routine code.calls-kept·outcome·answer-of (snd-thm.met 𝓤 H 𝓜 𝓖 𝓡)))

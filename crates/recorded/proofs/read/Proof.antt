@@ -54,24 +54,24 @@ use Rattle.sheets.proofs.sheet.read as read
 use Rattle.sheets.proofs.sheet.read.Symbol as read-def
 use Rattle.sheets.proofs.sheet.read.Symbol.{name as #read}
 use Rattle.sheets.proofs.sheet.read.Met as read-thm
-use Rattle.sheets.proofs.sheet.columns_of.Symbol as columns-def
-use Rattle.sheets.proofs.sheet.columns_of.Symbol.{name as #columns}
-use Rattle.sheets.proofs.sheet.columns_of.Met as columns-thm
-use Rattle.sheets.proofs.sheet.chains_of.Symbol as counted-chains-def
-use Rattle.sheets.proofs.sheet.chains_of.Symbol.{name as #counted-chains}
-use Rattle.sheets.proofs.sheet.chains_of.Met as counted-chains-thm
+use Rattle.recorded.proofs.sheet.columns_of.Symbol as columns-def
+use Rattle.recorded.proofs.sheet.columns_of.Symbol.{name as #columns}
+use Rattle.recorded.proofs.sheet.columns_of.Met as columns-thm
+use Rattle.recorded.proofs.sheet.chains_of.Symbol as counted-chains-def
+use Rattle.recorded.proofs.sheet.chains_of.Symbol.{name as #counted-chains}
+use Rattle.recorded.proofs.sheet.chains_of.Met as counted-chains-thm
 use Rattle.records.proofs.fill.lay_chains.Symbol as laid-chains-def
 use Rattle.records.proofs.fill.lay_chains.Symbol.{name as #laid-chains}
 use Rattle.records.proofs.fill.lay_chains.Met as laid-chains-thm
-use Rattle.sheets.proofs.sheet.rows_of.Symbol as counted-rows-def
-use Rattle.sheets.proofs.sheet.rows_of.Symbol.{name as #counted-rows}
-use Rattle.sheets.proofs.sheet.rows_of.Met as counted-rows-thm
+use Rattle.recorded.proofs.sheet.rows_of.Symbol as counted-rows-def
+use Rattle.recorded.proofs.sheet.rows_of.Symbol.{name as #counted-rows}
+use Rattle.recorded.proofs.sheet.rows_of.Met as counted-rows-thm
 use Rattle.records.proofs.fill.lay_rows.Symbol as laid-rows-def
 use Rattle.records.proofs.fill.lay_rows.Symbol.{name as #laid-rows}
 use Rattle.records.proofs.fill.lay_rows.Met as laid-rows-thm
-use Rattle.sheets.proofs.sheet.answer_of.Symbol as answer-def
-use Rattle.sheets.proofs.sheet.answer_of.Symbol.{name as #answer}
-use Rattle.sheets.proofs.sheet.answer_of.Met as answer-thm
+use Rattle.recorded.proofs.sheet.answer_of.Symbol as answer-def
+use Rattle.recorded.proofs.sheet.answer_of.Symbol.{name as #answer}
+use Rattle.recorded.proofs.sheet.answer_of.Met as answer-thm
 use Rattle.recorded.specs.RecordsRead.{RecordsOutcome, recordsRead}
 use Rattle.recorded.specs.RecordsReadLaws.{read-made}
 use Rattle.recorded.proofs.Asked.{Callee, asks}
@@ -200,10 +200,10 @@ read-spec 𝓤 H 𝓜 𝓖 𝓡 =
     (me-meets 𝓤 H (𝓖 .A) (givenOf 𝓤 H 𝓜 𝓖) (𝓜 .mem) (𝓡 .run) (tablesOf 𝓤 H 𝓜 (tables 𝓤 H 𝓜 𝓡 code.env))
     (record {
       read = cited 𝓤 H (Read 𝓤 H (𝓖 .A) (𝓜 .mem) (𝓡 .run)) 𝓜 𝓡 code.env #read read-def.routine code.calls-sheets·sheet·read (read-thm.met 𝓤 H 𝓜 𝓖 𝓡);
-      columns = cited 𝓤 H (Part 𝓤 H (𝓖 .A) (𝓜 .mem) (𝓡 .run) K.the-row (λ s. s .columns)) 𝓜 𝓡 code.env #columns columns-def.routine code.calls-sheets·sheet·columns-of (columns-thm.met 𝓤 H 𝓜 𝓖 𝓡);
-      counted-chains = cited 𝓤 H (Part 𝓤 H (𝓖 .A) (𝓜 .mem) (𝓡 .run) usize (λ s. s .chains)) 𝓜 𝓡 code.env #counted-chains counted-chains-def.routine code.calls-sheets·sheet·chains-of (counted-chains-thm.met 𝓤 H 𝓜 𝓖 𝓡);
+      columns = cited 𝓤 H (Part 𝓤 H (𝓖 .A) (𝓜 .mem) (𝓡 .run) K.the-row (λ s. s .columns)) 𝓜 𝓡 code.env #columns columns-def.routine code.calls-recorded·sheet·columns-of (columns-thm.met 𝓤 H 𝓜 𝓖 𝓡);
+      counted-chains = cited 𝓤 H (Part 𝓤 H (𝓖 .A) (𝓜 .mem) (𝓡 .run) usize (λ s. s .chains)) 𝓜 𝓡 code.env #counted-chains counted-chains-def.routine code.calls-recorded·sheet·chains-of (counted-chains-thm.met 𝓤 H 𝓜 𝓖 𝓡);
       laid-chains = cited 𝓤 H (Lay 𝓤 H (𝓖 .A) (𝓜 .mem) (𝓡 .run) T.the-row laidChains) 𝓜 𝓡 code.env #laid-chains laid-chains-def.routine code.calls-records·fill·lay-chains (laid-chains-thm.met 𝓤 H 𝓜 𝓖 𝓡);
-      counted-rows = cited 𝓤 H (Part 𝓤 H (𝓖 .A) (𝓜 .mem) (𝓡 .run) usize (λ s. s .rows)) 𝓜 𝓡 code.env #counted-rows counted-rows-def.routine code.calls-sheets·sheet·rows-of (counted-rows-thm.met 𝓤 H 𝓜 𝓖 𝓡);
+      counted-rows = cited 𝓤 H (Part 𝓤 H (𝓖 .A) (𝓜 .mem) (𝓡 .run) usize (λ s. s .rows)) 𝓜 𝓡 code.env #counted-rows counted-rows-def.routine code.calls-recorded·sheet·rows-of (counted-rows-thm.met 𝓤 H 𝓜 𝓖 𝓡);
       laid-rows = cited 𝓤 H (Lay 𝓤 H (𝓖 .A) (𝓜 .mem) (𝓡 .run) R.the-row laidRows) 𝓜 𝓡 code.env #laid-rows laid-rows-def.routine code.calls-records·fill·lay-rows (laid-rows-thm.met 𝓤 H 𝓜 𝓖 𝓡);
-      answer = cited 𝓤 H (Part 𝓤 H (𝓖 .A) (𝓜 .mem) (𝓡 .run) P.the-row (λ s. s .answer)) 𝓜 𝓡 code.env #answer answer-def.routine code.calls-sheets·sheet·answer-of (answer-thm.met 𝓤 H 𝓜 𝓖 𝓡);
+      answer = cited 𝓤 H (Part 𝓤 H (𝓖 .A) (𝓜 .mem) (𝓡 .run) P.the-row (λ s. s .answer)) 𝓜 𝓡 code.env #answer answer-def.routine code.calls-recorded·sheet·answer-of (answer-thm.met 𝓤 H 𝓜 𝓖 𝓡);
     }))

@@ -2,16 +2,15 @@ use Rattle.guards.specs.LentCalls.{arrive-none, arrive-unfit, arrive-no-task, a
 use Rattle.guards.specs.LentLaws.{held-long, rows-fit-lent}
 use Rattle.guards.specs.Lent.{stateOf}
 use Rattle.guards.specs.ArrivalLaws.{task-of, less-one, first-row-below, arriving}
-use Rattle.guards.specs.RowsLaws.{RowsOf, rows-in-of, no-plan, plan-rows}
+use Rattle.guards.specs.RowsLaws.{RowsOf, no-plan, plan-rows}
 use Rattle.guards.specs.Calls.{hasTask}
 use Rattle.guards.specs.declared.state.State.{State}
 use Rattle.table.specs.Table.{Table, tableOf, at, firstRow, rows}
 use Rattle.table.specs.TableLaws.{checked}
 use Rattle.facts.specs.Sums.{sum}
-use Rattle.facts.specs.Filled.{tab}
 use borrow.Author.Tests.{not-true, not-false}
 use mathlib.Core.Bool.{true}
-use mathlib.Core.Path.{_≡_, sym, _∙_, ap}
+use mathlib.Core.Path.{refl, _≡_, sym, _∙_, ap}
 use Prim.Native.Nat.{ℕ, pred, _≤_, _<_}
 use native.Mathlib.Omega.{arith}
 use borrow.Author.Needs.{needs}
@@ -34,8 +33,7 @@ state s = stateOf (s .args .clock) (s .args .released .now) (s .args .completed 
 
 -- Past the first test the table is a plan,
 rows-here : (c : tie.Else1) → RowsOf (table (c .before .before .before .before .before .before .before .before .before .before .before .before .before .before .before .before)) (record { count = c .before .before .before .rows-in .result; period = c .before .before .before .rows-in .last .1 .1 .1 .1 .1 .1 .1 .1 .0; first = c .before .before .before .rows-in .last .1 .1 .1 .1 .1 .1 .1 .1 .1 .0 })
-unfolding tab
-rows-here c = plan-rows (table (c .before .before .before .before .before .before .before .before .before .before .before .before .before .before .before .before)) (c .before .before .before .rows-in .ensures ∙ rows-in-of (table (c .before .before .before .before .before .before .before .before .before .before .before .before .before .before .before .before))) (c .if1 .left)
+rows-here c = plan-rows (table (c .before .before .before .before .before .before .before .before .before .before .before .before .before .before .before .before)) _ _ (c .before .before .before .rows-in .ensures) refl refl (c .if1 .left)
 
 -- past the second the state fits it,
 fits-here : (c : tie.Else2) → fitsHeld (table (c .before .before .before .before .before .before .before .before .before .before .before .before .before .before .before .before .before .before .before .before .before .before)) (state (c .before .before .before .before .before .before .before .before .before .before .before .before .before .before .before .before .before .before .before .before .before .before)) ≡ true
@@ -70,8 +68,7 @@ refused-requires c κs = search needs
 
 -- src/arrive.rt:100:9
 returns : tie.Need-returns
-unfolding tab
-returns c = arrive-none (table (c .before .before .before .before .before .before .before .before .before .before .before .before .before .before .before .before .before)) (state (c .before .before .before .before .before .before .before .before .before .before .before .before .before .before .before .before .before)) (c .before .before .before .before .before .before .before .before .before .before .before .before .before .before .before .before .before .args .task) (c .refused .ensures) (no-plan (table (c .before .before .before .before .before .before .before .before .before .before .before .before .before .before .before .before .before)) (c .before .before .before .before .rows-in .ensures ∙ rows-in-of (table (c .before .before .before .before .before .before .before .before .before .before .before .before .before .before .before .before .before))) (c .before .if1 .taken))
+returns c = arrive-none (table (c .before .before .before .before .before .before .before .before .before .before .before .before .before .before .before .before .before)) (state (c .before .before .before .before .before .before .before .before .before .before .before .before .before .before .before .before .before)) (c .before .before .before .before .before .before .before .before .before .before .before .before .before .before .before .before .before .args .task) (c .refused .ensures) (no-plan (table (c .before .before .before .before .before .before .before .before .before .before .before .before .before .before .before .before .before)) _ _ (c .before .before .before .before .rows-in .ensures) refl refl (c .before .if1 .taken))
 
 -- src/arrive.rt:104:9
 slice-aggregate-rows-fit : tie.Need-slice-aggregate-rows-fit

@@ -1,12 +1,11 @@
 use Rattle.guards.specs.LentCalls.{fresh-none, fresh-short, fresh-made}
 use Rattle.guards.specs.LentLaws.{held, held-long}
 use Rattle.guards.specs.Lent.{stateOf}
-use Rattle.guards.specs.RowsLaws.{rows-in-of, no-plan, plan-rows}
+use Rattle.guards.specs.RowsLaws.{no-plan, plan-rows}
 use Rattle.guards.specs.declared.state.State.{State}
 use Rattle.table.specs.Table.{Table, tableOf}
-use Rattle.facts.specs.Filled.{tab}
 use borrow.Author.Tests.{not-true, not-false}
-use mathlib.Core.Path.{sym, _∙_, ap}
+use mathlib.Core.Path.{refl, sym, _∙_, ap}
 use Prim.Native.Nat.{ℕ}
 use native.Mathlib.Omega.{arith}
 use borrow.Author.Needs.{needs}
@@ -44,8 +43,7 @@ refused-requires c κs = search needs
 
 -- src/fresh.rt:73:9
 returns : tie.Need-returns
-unfolding tab
-returns c = fresh-none (table (c .before .before .before .before .before .before .before .before .before .before .before .before .before .before .before .before .before)) (state (c .before .before .before .before .before .before .before .before .before .before .before .before .before .before .before .before .before)) (c .refused .ensures) (no-plan (table (c .before .before .before .before .before .before .before .before .before .before .before .before .before .before .before .before .before)) (c .before .before .before .before .rows-in .ensures ∙ rows-in-of (table (c .before .before .before .before .before .before .before .before .before .before .before .before .before .before .before .before .before))) (c .before .if1 .taken))
+returns c = fresh-none (table (c .before .before .before .before .before .before .before .before .before .before .before .before .before .before .before .before .before)) (state (c .before .before .before .before .before .before .before .before .before .before .before .before .before .before .before .before .before)) (c .refused .ensures) (no-plan (table (c .before .before .before .before .before .before .before .before .before .before .before .before .before .before .before .before .before)) _ _ (c .before .before .before .before .rows-in .ensures) refl refl (c .before .if1 .taken))
 
 -- src/fresh.rt:75:9
 lists-hold-requires : tie.Need-lists-hold-requires
@@ -73,9 +71,8 @@ same-length-4 c = search needs
 
 -- src/fresh.rt:76:9
 returns-2 : tie.Need-returns-2
-unfolding tab
 returns-2 c = let s = c .before .before .before .before .before .before .before .before .before .before .before .before .before .before .before .before .before .before .before .before .before .before .before in
-    let o = plan-rows (table s) (c .before .before .before .before .before .before .before .before .before .before .rows-in .ensures ∙ rows-in-of (table s)) (c .before .before .before .before .before .before .before .if1 .left) in
+    let o = plan-rows (table s) _ _ (c .before .before .before .before .before .before .before .before .before .before .rows-in .ensures) refl refl (c .before .before .before .before .before .before .before .if1 .left) in
     fresh-short (table s) (state s) (c .refused2 .ensures) (o .plan) (ap (λ (n : ℕ). held n (state s)) (sym (o .count)) ∙ sym (c .before .before .lists-hold .ensures) ∙ not-true _ (c .before .if2 .taken))
 
 -- src/fresh.rt:78:5
@@ -106,9 +103,8 @@ same-length-8 c = search needs
 
 -- src/fresh.rt:41:1
 returns-3 : tie.Need-returns-3
-unfolding tab
 returns-3 c = let s = c .before .before .before .before .before .before .before .before .before .before .before .before .before .before .before .before .before .before .before .before .before .before .before .before .before .before .before .before .before .before .before .before .before .before .before .before in
-    let o = plan-rows (table s) (c .before .before .before .before .before .before .before .before .before .before .before .before .before .before .before .before .before .before .before .before .before .before .before .rows-in .ensures ∙ rows-in-of (table s)) (c .before .before .before .before .before .before .before .before .before .before .before .before .before .before .before .before .before .before .before .before .if1 .left) in
+    let o = plan-rows (table s) _ _ (c .before .before .before .before .before .before .before .before .before .before .before .before .before .before .before .before .before .before .before .before .before .before .before .rows-in .ensures) refl refl (c .before .before .before .before .before .before .before .before .before .before .before .before .before .before .before .before .before .before .before .before .if1 .left) in
     let e = c .before .before .before .before .before .before .before .before .before .clear .ensures in
     fresh-made (table s) (state s) (c .taken .ensures) (o .plan) (ap (λ (n : ℕ). held n (state s)) (sym (o .count)) ∙ sym (c .before .before .before .before .before .before .before .before .before .before .before .before .before .before .before .lists-hold .ensures) ∙ not-false _ (c .before .before .before .before .before .before .before .before .before .before .before .before .before .before .if2 .left))
     (e .0 ∙ rw (o .count)) (e .1 ∙ rw (o .count)) (e .2 ∙ rw (o .count)) (e .3 ∙ rw (o .count))

@@ -20,67 +20,67 @@ abbrev μ-loop : tie.MeasureT-loop
 μ-loop rows spans counts worst busy₀ instances₀ bounds₀ i₀ busy instances bounds i =
     rows - i
 
--- src/rows.rt:157:5
+-- src/rows.rt:176:5
 loop-holds : tie.Need-loop-holds Inv-loop μ-loop
 loop-holds c = (omega arith, refl, refl, refl, filled-none _ _, filled-none _ _, filled-none _ _)
 
--- src/rows.rt:158:19
+-- src/rows.rt:177:19
 mul-busy : tie.Need-mul-busy Inv-loop μ-loop
 mul-busy c = search needs
 
--- src/rows.rt:158:19
+-- src/rows.rt:177:19
 shared-slice-read-busy : tie.Need-shared-slice-read-busy Inv-loop μ-loop
 shared-slice-read-busy c = search needs
 
--- src/rows.rt:158:9
+-- src/rows.rt:177:9
 mul-busy-2 : tie.Need-mul-busy-2 Inv-loop μ-loop
 mul-busy-2 c = search needs
 
--- src/rows.rt:158:9
+-- src/rows.rt:177:9
 slice-write-busy : tie.Need-slice-write-busy Inv-loop μ-loop
 slice-write-busy c = search needs
 
--- src/rows.rt:159:24
+-- src/rows.rt:178:24
 mul-instances : tie.Need-mul-instances Inv-loop μ-loop
 mul-instances c = search needs
 
--- src/rows.rt:159:24
+-- src/rows.rt:178:24
 shared-slice-read-instances : tie.Need-shared-slice-read-instances Inv-loop μ-loop
 shared-slice-read-instances c = search needs
 
--- src/rows.rt:159:9
+-- src/rows.rt:178:9
 mul-instances-2 : tie.Need-mul-instances-2 Inv-loop μ-loop
 mul-instances-2 c = search needs
 
--- src/rows.rt:159:9
+-- src/rows.rt:178:9
 slice-write-instances : tie.Need-slice-write-instances Inv-loop μ-loop
 slice-write-instances c = search needs
 
--- src/rows.rt:160:21
+-- src/rows.rt:179:21
 mul-bounds : tie.Need-mul-bounds Inv-loop μ-loop
 mul-bounds c = search needs
 
--- src/rows.rt:160:21
+-- src/rows.rt:179:21
 shared-slice-read-bounds : tie.Need-shared-slice-read-bounds Inv-loop μ-loop
 shared-slice-read-bounds c = search needs
 
--- src/rows.rt:160:9
+-- src/rows.rt:179:9
 mul-bounds-2 : tie.Need-mul-bounds-2 Inv-loop μ-loop
 mul-bounds-2 c = search needs
 
--- src/rows.rt:160:9
+-- src/rows.rt:179:9
 slice-write-bounds : tie.Need-slice-write-bounds Inv-loop μ-loop
 slice-write-bounds c = search needs
 
--- src/rows.rt:161:9
+-- src/rows.rt:180:9
 add-i : tie.Need-add-i Inv-loop μ-loop
 add-i c = search needs
 
--- src/rows.rt:157:5
+-- src/rows.rt:176:5
 loop-less : tie.Need-loop-less Inv-loop μ-loop
 loop-less c = search needs
 
--- src/rows.rt:157:5
+-- src/rows.rt:176:5
 loop-again : tie.Need-loop-again Inv-loop μ-loop
 loop-again c = let l = c .before .before .before .before .loop in (
   omega arith,
@@ -92,19 +92,19 @@ loop-again c = let l = c .before .before .before .before .loop in (
   rw (l .inv .6) (filled-more _ _ _ _ (omega arith) refl),
 )
 
--- src/rows.rt:144:1
+-- src/rows.rt:163:1
 same-length : tie.Need-same-length Inv-loop μ-loop
 same-length c = search needs
 
--- src/rows.rt:144:1
+-- src/rows.rt:163:1
 same-length-2 : tie.Need-same-length-2 Inv-loop μ-loop
 same-length-2 c = search needs
 
--- src/rows.rt:144:1
+-- src/rows.rt:163:1
 same-length-3 : tie.Need-same-length-3 Inv-loop μ-loop
 same-length-3 c = search needs
 
--- src/rows.rt:144:1
+-- src/rows.rt:163:1
 returns : tie.Need-returns Inv-loop μ-loop
 returns c = let l = c .before .loop in
     let e : l .i ≡ c .before .before .args .rows = omega arith in

@@ -23,91 +23,91 @@ abbrev μ-loop : tie.MeasureT-loop
 μ-loop tied span index period best busy₀ instances₀ bounds₀ i₀ busy instances bounds i =
     tied - i
 
--- src/rows.rt:35:5
+-- src/rows.rt:59:5
 loop-holds : tie.Need-loop-holds Inv-loop μ-loop
 loop-holds c = (omega arith, refl, refl, refl, sym (scattered-none _ _ _), sym (scattered-none _ _ _), sym (scattered-none _ _ _))
 
--- src/rows.rt:36:19
+-- src/rows.rt:60:19
 mul-row : tie.Need-mul-row Inv-loop μ-loop
 mul-row c = search needs
 
--- src/rows.rt:36:19
+-- src/rows.rt:60:19
 shared-slice-read-row : tie.Need-shared-slice-read-row Inv-loop μ-loop
 shared-slice-read-row c = search needs
 
--- src/rows.rt:37:9
+-- src/rows.rt:61:9
 mul-busy : tie.Need-mul-busy Inv-loop μ-loop
 mul-busy c = let l = c .before .before .loop in
     let s = c .before .before .before .before .before .before .before .before .before in
     let x = s .pre .1 .1 (l .i) (omega arith) in
     omega (arith, x, l .inv .1, l .inv .2, l .inv .3)
 
--- src/rows.rt:37:9
+-- src/rows.rt:61:9
 slice-write-busy : tie.Need-slice-write-busy Inv-loop μ-loop
 slice-write-busy c = let l = c .before .before .loop in
     let s = c .before .before .before .before .before .before .before .before .before in
     let x = s .pre .1 .1 (l .i) (omega arith) in
     omega (arith, x, l .inv .1, l .inv .2, l .inv .3)
 
--- src/rows.rt:38:43
+-- src/rows.rt:62:43
 mul-periods-in : tie.Need-mul-periods-in Inv-loop μ-loop
 mul-periods-in c = search needs
 
--- src/rows.rt:38:43
+-- src/rows.rt:62:43
 shared-slice-read-periods-in : tie.Need-shared-slice-read-periods-in Inv-loop μ-loop
 shared-slice-read-periods-in c = search needs
 
--- src/rows.rt:38:26
+-- src/rows.rt:62:26
 periods-in-requires : tie.Need-periods-in-requires Inv-loop μ-loop
 periods-in-requires c κs = let s = c .before .before .before .before .before .before .before .before .before .before in
     let x = s .pre .1 .0 (c .before .before .before .loop .i) (omega arith) in
     (s .pre .0 .0, s .pre .0 .1, x .0, x .1)
 
--- src/rows.rt:38:9
+-- src/rows.rt:62:9
 mul-instances : tie.Need-mul-instances Inv-loop μ-loop
 mul-instances c = let l = c .before .before .before .before .loop in
     let s = c .before .before .before .before .before .before .before .before .before .before .before in
     let x = s .pre .1 .1 (l .i) (omega arith) in
     omega (arith, x, l .inv .1, l .inv .2, l .inv .3)
 
--- src/rows.rt:38:9
+-- src/rows.rt:62:9
 slice-write-instances : tie.Need-slice-write-instances Inv-loop μ-loop
 slice-write-instances c = let l = c .before .before .before .before .loop in
     let s = c .before .before .before .before .before .before .before .before .before .before .before in
     let x = s .pre .1 .1 (l .i) (omega arith) in
     omega (arith, x, l .inv .1, l .inv .2, l .inv .3)
 
--- src/rows.rt:39:23
+-- src/rows.rt:63:23
 mul-bounds : tie.Need-mul-bounds Inv-loop μ-loop
 mul-bounds c = search needs
 
--- src/rows.rt:39:23
+-- src/rows.rt:63:23
 shared-slice-read-bounds : tie.Need-shared-slice-read-bounds Inv-loop μ-loop
 shared-slice-read-bounds c = search needs
 
--- src/rows.rt:39:9
+-- src/rows.rt:63:9
 mul-bounds-2 : tie.Need-mul-bounds-2 Inv-loop μ-loop
 mul-bounds-2 c = let l = c .before .before .before .before .before .loop in
     let s = c .before .before .before .before .before .before .before .before .before .before .before .before in
     let x = s .pre .1 .1 (l .i) (omega arith) in
     omega (arith, x, l .inv .1, l .inv .2, l .inv .3)
 
--- src/rows.rt:39:9
+-- src/rows.rt:63:9
 slice-write-bounds : tie.Need-slice-write-bounds Inv-loop μ-loop
 slice-write-bounds c = let l = c .before .before .before .before .before .loop in
     let s = c .before .before .before .before .before .before .before .before .before .before .before .before in
     let x = s .pre .1 .1 (l .i) (omega arith) in
     omega (arith, x, l .inv .1, l .inv .2, l .inv .3)
 
--- src/rows.rt:40:9
+-- src/rows.rt:64:9
 add-i : tie.Need-add-i Inv-loop μ-loop
 add-i c = search needs
 
--- src/rows.rt:35:5
+-- src/rows.rt:59:5
 loop-less : tie.Need-loop-less Inv-loop μ-loop
 loop-less c = search needs
 
--- src/rows.rt:35:5
+-- src/rows.rt:59:5
 loop-again : tie.Need-loop-again Inv-loop μ-loop
 loop-again c = let l = c .before .before .before .before .before .loop in (
   omega arith,
@@ -119,19 +119,19 @@ loop-again c = let l = c .before .before .before .before .before .loop in (
   rw (l .inv .6) (sym (scattered-more _ _ (l .i) _)),
 )
 
--- src/rows.rt:20:1
+-- src/rows.rt:44:1
 same-length : tie.Need-same-length Inv-loop μ-loop
 same-length c = search needs
 
--- src/rows.rt:20:1
+-- src/rows.rt:44:1
 same-length-2 : tie.Need-same-length-2 Inv-loop μ-loop
 same-length-2 c = search needs
 
--- src/rows.rt:20:1
+-- src/rows.rt:44:1
 same-length-3 : tie.Need-same-length-3 Inv-loop μ-loop
 same-length-3 c = search needs
 
--- src/rows.rt:20:1
+-- src/rows.rt:44:1
 returns : tie.Need-returns Inv-loop μ-loop
 returns c = let l = c .before .loop in
     let e : l .i ≡ c .before .before .before .before .before .before .before .before .args .tied = omega arith in

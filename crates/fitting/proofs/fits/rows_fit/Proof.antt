@@ -1,7 +1,7 @@
 use Rattle.guards.specs.LentLaws.{rows-fit-late, fitting, rows-fit-each}
 use Rattle.guards.specs.Lent.{rowsFitIn, stateOf}
 use Rattle.guards.specs.declared.state.State.{State}
-use Rattle.guards.specs.declared.rows.Rows.{Rows}
+use Rattle.guards.specs.Rows.{Rows}
 use borrow.Author.Tests.{not-true, not-false}
 use mathlib.Core.Path.{sym, _∙_}
 use native.Mathlib.Omega.{arith}

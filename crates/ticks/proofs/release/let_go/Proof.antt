@@ -1,4 +1,4 @@
-use Rattle.ticks.specs.TurnLaws.{made-read, made-store}
+use Rattle.ticks.specs.TurnLaws.{made-read, made-store, released-is, guard-is, byte-is}
 use Rattle.guards.specs.Rows.{planFrom}
 use Rattle.guards.specs.Lent.{stateOf}
 use Rattle.guards.specs.Machine.{due, letGo}
@@ -139,34 +139,34 @@ loop-less c = search needs
 
 -- src/release.rt:109:5
 loop-again : tie.Need-loop-again Inv-loop μ-loop
-unfolding letGo due momentOf
+unfolding momentOf
 loop-again c = let l = c .before .before .before .before .before .before .before .before .before .before .loop in
     let s = c .before .before .before .before .before .before .before .before .before .before .before .before .before .before .before .before .before .before in
     let m = letGo (plan s) (moment s) in
     let readr = made-read (m .released) (l .row) (s .args .released .now) (l .inv .2) in
     let readg = made-read (m .guard) (l .row) (s .args .guard .now) (l .inv .4) in
-    let e : c .before .before .before .before .before .is-due .result ≡ due (plan s) (moment s) (l .row) = c .before .before .before .before .before .is-due .ensures ∙ rw (readr, readg, l .inv .1) in (
+    let e = c .before .before .before .before .before .is-due .ensures in (
       omega arith,
       rw add-one,
-      made-store (m .released) (l .row) (s .args .released .now) (l .inv .2) (omega arith) (c .before .before .before .before .either .ensures ∙ rw (e, readr)),
+      made-store (m .released) (l .row) (s .args .released .now) (l .inv .2) (omega arith) (released-is (plan s) (moment s) (l .row) readr readg (l .inv .1) e (c .before .before .before .before .either .ensures)),
       simp length-set (l .inv .3),
-      made-store (m .guard) (l .row) (s .args .guard .now) (l .inv .4) (omega arith) (c .before .before .either2 .ensures ∙ rw (e, readg)),
+      made-store (m .guard) (l .row) (s .args .guard .now) (l .inv .4) (omega arith) (guard-is (plan s) (moment s) (l .row) readr readg (l .inv .1) e (c .before .before .either2 .ensures)),
       simp length-set (l .inv .5),
-      made-store _ (l .row) (s .args .out .now) (l .inv .6) (omega arith) (c .before .byte-of .ensures ∙ rw e),
+      made-store _ (l .row) (s .args .out .now) (l .inv .6) (omega arith) (byte-is (plan s) (moment s) (l .row) readr readg (l .inv .1) e (c .before .byte-of .ensures)),
       simp length-set (l .inv .7),
     )
 
 -- src/release.rt:94:1
 same-length : tie.Need-same-length Inv-loop μ-loop
-same-length c = search needs
+same-length c = c .before .loop .inv .3
 
 -- src/release.rt:94:1
 same-length-2 : tie.Need-same-length-2 Inv-loop μ-loop
-same-length-2 c = search needs
+same-length-2 c = c .before .loop .inv .5
 
 -- src/release.rt:94:1
 same-length-3 : tie.Need-same-length-3 Inv-loop μ-loop
-same-length-3 c = search needs
+same-length-3 c = c .before .loop .inv .7
 
 -- src/release.rt:94:1
 returns : tie.Need-returns Inv-loop μ-loop

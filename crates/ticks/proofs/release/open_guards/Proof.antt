@@ -84,7 +84,7 @@ loop-again c = let l = c .before .before .before .before .before .before .loop i
 
 -- src/release.rt:52:1
 same-length : tie.Need-same-length Inv-loop μ-loop
-same-length c = search needs
+same-length c = c .before .loop .inv .2
 
 -- src/release.rt:52:1
 returns : tie.Need-returns Inv-loop μ-loop

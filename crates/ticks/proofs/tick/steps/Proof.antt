@@ -1,7 +1,8 @@
 use Rattle.ticks.specs.StepsLaws.{releasing, lent-steps, lent-bytes}
 use Rattle.guards.specs.Lent.{stateOf}
 use Rattle.guards.specs.declared.state.State.{State}
-use Rattle.guards.specs.declared.rows.Rows.{Rows}
+use Rattle.guards.specs.Rows.{Rows}
+use mathlib.Core.Path.{_∙_}
 use native.Mathlib.Omega.{arith}
 use borrow.Author.Needs.{needs}
 use Rattle.ticks.proofs.tick.steps.Statement.{statement}
@@ -38,19 +39,19 @@ let-go-requires c κs = let s = c .before .before .before .before .before .befor
     releasing (rows s) (s .args .processor .now) (s .args .running .now) (s .args .done .now) (state s) (s .args .out .now) (s .pre) (c .before .before .before .before .before .before .before .before .before .before .before .before .before .before .before .before .work .ensures .0) (c .before .before .before .before .before .before .before .before .before .before .before .before .before .before .before .before .work .ensures .1) (c .before .before .before .before .before .before .before .before .before .busy-processors .ensures) (c .before .before .before .before .before .before .open-guards .ensures)
 
 same-length : tie.Need-same-length
-same-length c = search needs
+same-length c = c .before .before .before .before .before .before .let-go .kept .1 .1 .1 .1 .0
 
 same-length-2 : tie.Need-same-length-2
-same-length-2 c = search needs
+same-length-2 c = c .before .before .before .before .before .before .before .before .before .before .before .before .before .before .before .before .before .before .before .before .before .before .before .work .kept .1 .1 .1 .1 .0
 
 same-length-3 : tie.Need-same-length-3
-same-length-3 c = search needs
+same-length-3 c = c .before .before .before .before .before .before .before .before .before .before .before .before .before .before .before .before .before .before .before .before .before .before .before .work .kept .1 .1 .1 .1 .1 .0
 
 same-length-4 : tie.Need-same-length-4
-same-length-4 c = search needs
+same-length-4 c = c .before .before .before .before .before .before .let-go .kept .1 .1 .1 .1 .1 .1 .0 ∙ c .before .before .before .before .before .before .before .before .before .before .before .before .before .open-guards .kept .1 .1 .1 .1 .1 .0
 
 same-length-5 : tie.Need-same-length-5
-same-length-5 c = search needs
+same-length-5 c = c .before .before .before .before .before .before .let-go .kept .1 .1 .1 .1 .1 .1 .1 .0
 
 returns : tie.Need-returns
 returns c = let s = c .before .before .before .before .before .before .before .before .before .before .before .before .before .before .before .before .before .before .before .before .before .before .before .before .before .before .before .before .before .before .before .before .before .before .before .before in

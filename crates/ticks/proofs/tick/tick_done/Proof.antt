@@ -1,11 +1,10 @@
-use Rattle.ticks.specs.TickingLaws.{list-long, wrong-lowest, up-lowest, timely, stepping, ticked-made, bytes-ticked, clock-end, done-wrong, done-up, done-made}
+use Rattle.ticks.specs.TickingLaws.{list-long, timely, stepping, clock-end, list-wrong, list-up, list-made}
 use Rattle.guards.specs.Moment.{momentOf}
 use Rattle.guards.specs.Lent.{stateOf}
-use Rattle.guards.specs.Rows.{planFrom}
+use Rattle.guards.specs.Rows.{Rows, planFrom}
 use Rattle.guards.specs.declared.state.State.{State}
-use Rattle.guards.specs.declared.rows.Rows.{Rows}
 use Rattle.table.specs.Plan.{Plan}
-use mathlib.Core.Path.{_∙_}
+use mathlib.Core.Path.{refl, _∙_}
 use Prim.Native.Nat.{suc}
 use native.Mathlib.Omega.{arith}
 use borrow.Author.Needs.{needs}
@@ -51,16 +50,14 @@ refused-requires-2 : tie.Need-refused-requires-2
 refused-requires-2 c κs = search needs
 
 same-length : tie.Need-same-length
-same-length c = search needs
+same-length c = refl
 
 same-length-2 : tie.Need-same-length-2
-same-length-2 c = search needs
+same-length-2 c = refl
 
 returns-2 : tie.Need-returns-2
 returns-2 c = let s = c .before .before .before .before .before .before .before .before .before .before .before .before .before .before .before .before .before .before .before in
-    let er = c .before .before .before .before .running-rows .ensures (s .args .clock) (s .args .used .now) (s .args .guard .now) in
-    let w = c .before .before .lowest-wrong .ensures ∙ wrong-lowest (rows s) (s .args .processor .now) (s .args .priority .now) (s .args .time .now) (state s) er (s .args .processors) (s .args .done .now) (s .pre .ready .listed .processors-most) in
-    done-wrong (s .args .processors) (plan s) (state s) (s .args .done .now) (s .args .out .now) (c .before .before .before .before .before .before .before .if1 .left) w (c .refused2 .ensures) (c .before .if2 .taken)
+    list-wrong (rows s) (s .args .processors) (s .args .processor .now) (s .args .priority .now) (s .args .time .now) (state s) (c .before .before .before .before .running-rows .ensures (s .args .clock) (s .args .used .now) (s .args .guard .now)) (s .pre .ready) (s .args .done .now) (s .args .out .now) (c .before .before .before .before .before .before .before .if1 .left) (c .before .before .lowest-wrong .ensures) (c .refused2 .ensures) (c .before .if2 .taken)
 
 slice-aggregate-lowest-up : tie.Need-slice-aggregate-lowest-up
 slice-aggregate-lowest-up c = search needs
@@ -80,20 +77,17 @@ refused-requires-3 : tie.Need-refused-requires-3
 refused-requires-3 c κs = search needs
 
 same-length-3 : tie.Need-same-length-3
-same-length-3 c = search needs
+same-length-3 c = refl
 
 same-length-4 : tie.Need-same-length-4
-same-length-4 c = search needs
+same-length-4 c = refl
 
 same-length-5 : tie.Need-same-length-5
-same-length-5 c = search needs
+same-length-5 c = refl
 
 returns-3 : tie.Need-returns-3
 returns-3 c = let s = c .before .before .before .before .before .before .before .before .before .before .before .before .before .before .before .before .before .before .before .before .before .before .before in
-    let er = c .before .before .before .before .before .before .before .before .running-rows .ensures (s .args .clock) (s .args .used .now) (s .args .guard .now) in
-    let w = c .before .before .before .before .before .before .lowest-wrong .ensures ∙ wrong-lowest (rows s) (s .args .processor .now) (s .args .priority .now) (s .args .time .now) (state s) er (s .args .processors) (s .args .done .now) (s .pre .ready .listed .processors-most) in
-    let u = c .before .before .lowest-up .ensures ∙ up-lowest (rows s) (s .args .processor .now) (s .args .priority .now) (s .args .time .now) (state s) er (s .args .processors) (s .args .done .now) (s .pre .ready .listed .processors-most) in
-    done-up (s .args .processors) (plan s) (state s) (s .args .done .now) (s .args .out .now) (c .before .before .before .before .before .before .before .before .before .before .before .if1 .left) w (c .before .before .before .before .before .if2 .left) (c .refused3 .ensures) u (c .before .if3 .taken)
+    list-up (rows s) (s .args .processors) (s .args .processor .now) (s .args .priority .now) (s .args .time .now) (state s) (c .before .before .before .before .before .before .before .before .running-rows .ensures (s .args .clock) (s .args .used .now) (s .args .guard .now)) (s .pre .ready) (s .args .done .now) (s .args .out .now) (c .before .before .before .before .before .before .before .before .before .before .before .if1 .left) (c .before .before .before .before .before .before .lowest-wrong .ensures) (c .before .before .before .before .before .if2 .left) (c .before .before .lowest-up .ensures) (c .refused3 .ensures) (c .before .if3 .taken)
 
 slice-aggregate-steps : tie.Need-slice-aggregate-steps
 slice-aggregate-steps c = search needs
@@ -115,29 +109,24 @@ taken-requires : tie.Need-taken-requires
 taken-requires c κs = search needs
 
 same-length-6 : tie.Need-same-length-6
-same-length-6 c = search needs
+same-length-6 c = c .before .before .before .before .before .before .before .before .before .before .before .steps .kept .1 .1 .1 .1 .1 .1 .1 .0
 
 same-length-7 : tie.Need-same-length-7
-same-length-7 c = search needs
+same-length-7 c = c .before .before .before .before .before .before .before .before .before .before .before .steps .kept .1 .1 .1 .1 .1 .1 .1 .1 .0
 
 same-length-8 : tie.Need-same-length-8
-same-length-8 c = search needs
+same-length-8 c = c .before .before .before .before .before .before .before .before .before .before .before .steps .kept .1 .1 .1 .1 .1 .1 .1 .1 .1 .0
 
 same-length-9 : tie.Need-same-length-9
-same-length-9 c = search needs
+same-length-9 c = c .before .before .before .before .before .before .before .before .before .before .before .steps .kept .1 .1 .1 .1 .1 .1 .1 .1 .1 .1 .0
 
 same-length-10 : tie.Need-same-length-10
-same-length-10 c = search needs
+same-length-10 c = c .before .before .before .before .before .before .before .before .before .before .before .steps .kept .1 .1 .1 .1 .1 .1 .1 .1 .1 .1 .1 .0
 
 returns-4 : tie.Need-returns-4
 returns-4 c = let s = c .before .before .before .before .before .before .before .before .before .before .before .before .before .before .before .before .before .before .before .before .before .before .before .before .before .before .before .before .before .before .before .before .before .before .before .before .before .before .before .before in
-    let er = c .before .before .before .before .before .before .before .before .before .before .before .before .before .before .before .before .before .before .before .before .before .before .before .before .before .running-rows .ensures (s .args .clock) (s .args .used .now) (s .args .guard .now) in
-    let w = c .before .before .before .before .before .before .before .before .before .before .before .before .before .before .before .before .before .before .before .before .before .before .before .lowest-wrong .ensures ∙ wrong-lowest (rows s) (s .args .processor .now) (s .args .priority .now) (s .args .time .now) (state s) er (s .args .processors) (s .args .done .now) (s .pre .ready .listed .processors-most) in
-    let u = c .before .before .before .before .before .before .before .before .before .before .before .before .before .before .before .before .before .before .before .lowest-up .ensures ∙ up-lowest (rows s) (s .args .processor .now) (s .args .priority .now) (s .args .time .now) (state s) er (s .args .processors) (s .args .done .now) (s .pre .ready .listed .processors-most) in
     let made = c .before .before .before .before .before .before .before .before .before .before .before .steps .ensures in
-    done-made (s .args .processors) (plan s) (state s) (s .args .done .now) (s .args .out .now) (c .before .before .before .before .before .before .before .before .before .before .before .before .before .before .before .before .before .before .before .before .before .before .before .before .before .before .before .before .if1 .left) w (c .before .before .before .before .before .before .before .before .before .before .before .before .before .before .before .before .before .before .before .before .before .before .if2 .left) (c .taken .ensures) u (c .before .before .before .before .before .before .before .before .before .before .before .before .before .before .before .before .before .before .if3 .left)
-    (made .0 ∙ ticked-made (rows s) (s .args .processor .now) (s .args .priority .now) (s .args .time .now) (state s) er (s .pre .ready) (s .args .done .now))
-    (made .1 ∙ bytes-ticked (rows s) (s .args .processor .now) (s .args .priority .now) (s .args .time .now) (state s) er (s .pre .ready) (s .args .done .now) (s .args .out .now))
+    list-made (rows s) (s .args .processors) (s .args .processor .now) (s .args .priority .now) (s .args .time .now) (state s) (c .before .before .before .before .before .before .before .before .before .before .before .before .before .before .before .before .before .before .before .before .before .before .before .before .before .running-rows .ensures (s .args .clock) (s .args .used .now) (s .args .guard .now)) (s .pre .ready) (s .args .done .now) (s .args .out .now) (c .before .before .before .before .before .before .before .before .before .before .before .before .before .before .before .before .before .before .before .before .before .before .before .before .before .before .before .before .if1 .left) (c .before .before .before .before .before .before .before .before .before .before .before .before .before .before .before .before .before .before .before .before .before .before .before .lowest-wrong .ensures) (c .before .before .before .before .before .before .before .before .before .before .before .before .before .before .before .before .before .before .before .before .before .before .if2 .left) (c .before .before .before .before .before .before .before .before .before .before .before .before .before .before .before .before .before .before .before .lowest-up .ensures) (c .taken .ensures) (c .before .before .before .before .before .before .before .before .before .before .before .before .before .before .before .before .before .before .if3 .left) (made .0) (made .1)
 
 pub tick-done-spec : {M : Type 1} → statement M
 tick-done-spec =

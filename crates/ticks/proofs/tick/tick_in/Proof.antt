@@ -1,10 +1,9 @@
 use Rattle.ticks.specs.TableLaws.{listing, tick-none, tick-made}
 use Rattle.guards.specs.Lent.{stateOf}
-use Rattle.guards.specs.RowsLaws.{RowsOf, rows-in-of, no-plan, plan-rows}
+use Rattle.guards.specs.RowsLaws.{RowsOf, no-plan, plan-rows}
 use Rattle.guards.specs.declared.state.State.{State}
 use Rattle.table.specs.Table.{Table, tableOf}
-use Rattle.facts.specs.Filled.{tab}
-use mathlib.Core.Path.{_∙_}
+use mathlib.Core.Path.{refl, _∙_}
 use native.Mathlib.Omega.{arith}
 use borrow.Author.Needs.{needs}
 use Rattle.ticks.proofs.tick.tick_in.Statement.{statement}
@@ -19,9 +18,14 @@ abbrev state : tie.Start → State
 state s = stateOf (s .args .clock) (s .args .released .now) (s .args .completed .now) (s .args .used .now) (s .args .guard .now)
 
 -- Past the test the table is a plan.
-rows-here : (c : tie.Else1) → RowsOf (table (c .before .before .before .before .before .before .before .before .before .before .before .before .before .before .before .before .before .before)) (record { count = c .before .before .before .rows-in .result; period = c .before .before .before .rows-in .last .1 .1 .1 .1 .1 .1 .1 .1 .0; first = c .before .before .before .rows-in .last .1 .1 .1 .1 .1 .1 .1 .1 .1 .0 })
-unfolding tab
-rows-here c = plan-rows (table (c .before .before .before .before .before .before .before .before .before .before .before .before .before .before .before .before .before .before)) (c .before .before .before .rows-in .ensures ∙ rows-in-of (table (c .before .before .before .before .before .before .before .before .before .before .before .before .before .before .before .before .before .before))) (c .if1 .left)
+rows-here : (c : tie.Else1) → RowsOf (table (c .before .before .before .before .before .before .before .before .before .before .before .before .before .before .before .before .before .before .before .before)) (record { count = c .before .before .before .rows-in .result; period = c .before .before .before .rows-in .last .1 .1 .1 .1 .1 .1 .1 .1 .0; first = c .before .before .before .rows-in .last .1 .1 .1 .1 .1 .1 .1 .1 .1 .0 })
+rows-here c = plan-rows (table (c .before .before .before .before .before .before .before .before .before .before .before .before .before .before .before .before .before .before .before .before)) _ _ (c .before .before .before .rows-in .ensures) (c .before .before .before .before .before .before .before .period-room .ensures) (c .before .before .before .before .before .before .first-room .ensures) (c .if1 .left)
+
+period-room-requires : tie.Need-period-room-requires
+period-room-requires c κs = search needs
+
+first-room-requires : tie.Need-first-room-requires
+first-room-requires c κs = search needs
 
 slice-aggregate-rows-in : tie.Need-slice-aggregate-rows-in
 slice-aggregate-rows-in c = search needs
@@ -36,9 +40,8 @@ refused-requires : tie.Need-refused-requires
 refused-requires c κs = search needs
 
 returns : tie.Need-returns
-unfolding tab
-returns c = let s = c .before .before .before .before .before .before .before .before .before .before .before .before .before .before .before .before .before .before .before in
-    tick-none (table s) (state s) (s .args .done .now) (s .args .out .now) (c .refused .ensures) (no-plan (table s) (c .before .before .before .before .rows-in .ensures ∙ rows-in-of (table s)) (c .before .if1 .taken))
+returns c = let s = c .before .before .before .before .before .before .before .before .before .before .before .before .before .before .before .before .before .before .before .before .before in
+    tick-none (table s) (state s) (s .args .done .now) (s .args .out .now) (c .refused .ensures) (no-plan (table s) _ _ (c .before .before .before .before .rows-in .ensures) (c .before .before .before .before .before .before .before .before .period-room .ensures) (c .before .before .before .before .before .before .before .first-room .ensures) (c .before .if1 .taken))
 
 slice-aggregate-tick-open : tie.Need-slice-aggregate-tick-open
 slice-aggregate-tick-open c = search needs
@@ -50,28 +53,30 @@ tick-open-requires : tie.Need-tick-open-requires
 tick-open-requires c κs = listing (rows-here (c .before .before .before .before .before .before .before))
 
 same-length : tie.Need-same-length
-same-length c = search needs
+same-length c = c .before .before .before .before .before .before .before .before .before .before .tick-open .kept .1 .1 .1 .1 .1 .1 .1 .1 .0
 
 same-length-2 : tie.Need-same-length-2
-same-length-2 c = search needs
+same-length-2 c = c .before .before .before .before .before .before .before .before .before .before .tick-open .kept .1 .1 .1 .1 .1 .1 .1 .1 .1 .0
 
 same-length-3 : tie.Need-same-length-3
-same-length-3 c = search needs
+same-length-3 c = c .before .before .before .before .before .before .before .before .before .before .tick-open .kept .1 .1 .1 .1 .1 .1 .1 .1 .1 .1 .0
 
 same-length-4 : tie.Need-same-length-4
-same-length-4 c = search needs
+same-length-4 c = c .before .before .before .before .before .before .before .before .before .before .tick-open .kept .1 .1 .1 .1 .1 .1 .1 .1 .1 .1 .1 .0
 
 same-length-5 : tie.Need-same-length-5
-same-length-5 c = search needs
+same-length-5 c = c .before .before .before .before .before .before .before .before .before .before .tick-open .kept .1 .1 .1 .1 .1 .1 .1 .1 .1 .1 .1 .1 .1 .0
 
 returns-2 : tie.Need-returns-2
-returns-2 c = let s = c .before .before .before .before .before .before .before .before .before .before .before .before .before .before .before .before .before .before .before .before .before .before .before .before .before .before .before .before .before .before .before .before .before .before .before .before in
+returns-2 c = let s = c .before .before .before .before .before .before .before .before .before .before .before .before .before .before .before .before .before .before .before .before .before .before .before .before .before .before .before .before .before .before .before .before .before .before .before .before .before .before in
     tick-made (table s) (state s) (s .args .done .now) (s .args .out .now) (rows-here (c .before .before .before .before .before .before .before .before .before .before .before .before .before .before .before .before .before .before)) (c .before .before .before .before .before .before .before .before .before .before .tick-open .ensures)
 
 pub tick-in-spec : {M : Type 1} → statement M
 tick-in-spec =
     tie.close
     (tie.spec
+    period-room-requires
+    first-room-requires
     slice-aggregate-rows-in
     slice-aggregate-rows-in-2
     rows-in-requires

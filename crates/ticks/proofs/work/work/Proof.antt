@@ -131,11 +131,11 @@ loop-again c = let l = c .before .before .before .before .before .before .before
 
 -- src/work.rt:39:1
 same-length : tie.Need-same-length Inv-loop μ-loop
-same-length c = search needs
+same-length c = c .before .loop .inv .2
 
 -- src/work.rt:39:1
 same-length-2 : tie.Need-same-length-2 Inv-loop μ-loop
-same-length-2 c = search needs
+same-length-2 c = c .before .loop .inv .4
 
 -- src/work.rt:39:1
 returns : tie.Need-returns Inv-loop μ-loop
