@@ -3,11 +3,4 @@ pub mod FromFile
 pub mod FieldsHeld
 pub mod StateHeld
 pub mod StateRoundTrip
-pub mod CallsHeld
-pub mod RefusedLeaves
-pub mod Theorem
 pub mod TableRead
-pub mod TableHeld
-pub mod FilePromise
-pub mod ReportPromise
-pub mod Example

@@ -1,2 +1,4 @@
 // The promise and "fits is kept" on the host's byte lists. Theorems only: specs/OnBytes.antt and specs/FromFile.antt say
-// what, specs/Theorem.antt and specs/ReportPromise.antt prove it.
+// what, proofs/Theorem.antt and proofs/ReportPromise.antt prove it.
+
+#![tactic(auto)]

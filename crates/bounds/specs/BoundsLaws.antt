@@ -2,7 +2,6 @@
 use Rattle.std.specs.Prelude.{◌≡◌, Bool, cond, ℕ, suc, ◌+◌, ◌<◌}
 use Rattle.std.proofs.Common.{ap, sym, ◌∙◌, arith}
 use Rattle.facts.specs.SumsLaws.{sum_ext}
-use Rattle.facts.specs.Tests.{all}
 use Rattle.facts.specs.TestsLaws.{clash, all_ext}
 use Rattle.facts.specs.FilledLaws.{filled_ext}
 use Rattle.table.specs.declared.refusal.Refusal.{Refusal}

@@ -1,6 +1,5 @@
 -- The chains' part of the bounds. The private functions promise these.
-use Rattle.std.specs.Prelude.{◌≡◌, List, [], ℕ, ◌≤◌, ◌<◌, length}
-use Rattle.facts.specs.Sums.{sum}
+use Rattle.std.specs.Prelude.{List, [], ℕ, ◌≤◌, ◌<◌, length}
 use Rattle.table.specs.Table.{Table, at, table_of, rows}
 use Rattle.busy.specs.Rows.{numbers_of}
 use Rattle.bounds.specs.Bounds.{Numbers}

@@ -1,7 +1,7 @@
 -- Laws of the walk over the chains.
 use Rattle.std.proofs.Math.Path.{◌≡◌, refl}
-use Rattle.std.proofs.Common.{ap, sym, ◌∙◌, arith, add-one}
-use Rattle.std.specs.Prelude.{Bool, not, ◌&&◌, List, ℕ, suc, ◌+◌, ◌≤◌, ◌<◌, eqb, ℤ, pos, ◌-ℤ◌}
+use Rattle.std.proofs.Common.{◌∙◌, arith, add-one}
+use Rattle.std.specs.Prelude.{Bool, ◌&&◌, List, ℕ, ◌+◌, ◌≤◌, ◌<◌, eqb, ℤ, pos, ◌-ℤ◌}
 use Rattle.std.proofs.Math.Bool.{true, false, cond}
 use Rattle.std.specs.Int.Signed.{le_z, lt_z}
 use Rattle.facts.specs.Sums.{sum}

@@ -1,5 +1,5 @@
 -- The first half of demand 3, proved: over the analysis, and over the outcomes that the bounds' contract allows.
-use Rattle.std.specs.Prelude.{◌≡◌, refl, Bool, false, cond, get_or, pos, ◌-ℤ◌, ◌≤ℤ◌}
+use Rattle.std.specs.Prelude.{◌≡◌, refl, Bool, false, pos, ◌≤ℤ◌}
 use Rattle.std.proofs.Math.Path.{ap, sym}
 use Rattle.std.proofs.Common.{◌∙◌, arith}
 use Rattle.std.proofs.Math.Bool.{true}
@@ -9,9 +9,7 @@ use Rattle.std.proofs.Math.Decide.{dec_lt}
 use borrow.Author.Tests.{leb-true, le-leb}
 use Rattle.std.proofs.Math.Dec.{leb}
 use Rattle.std.specs.Int.Signed.{le_z}
-use Rattle.facts.specs.Sums.{sum}
 use Rattle.facts.specs.SumsLaws.{sum_mono, sum_ext, sum_if_ext}
-use Rattle.facts.specs.Tests.{all}
 use Rattle.facts.specs.TestsLaws.{all_at, all_of, clash}
 use Rattle.facts.specs.Rounding.{ceil}
 use Rattle.facts.specs.LeastLaws.{Answer}
@@ -19,16 +17,15 @@ use Rattle.facts.specs.Filled.{filled}
 use Rattle.facts.specs.FilledLaws.{get_d_filled}
 use Rattle.table.specs.Table.{Table, at, first_row, rows, is_plan}
 use Rattle.table.specs.TableLaws.{Checked, checked}
-use Rattle.table.specs.Plan.{Plan, task_of, plan_of, in_force}
-use Rattle.table.specs.PlanLaws.{Right, right_of, task_row}
-use Rattle.equations.specs.Row.{Row, work, RowBounds}
+use Rattle.table.specs.Plan.{task_of, plan_of, in_force}
+use Rattle.table.specs.PlanLaws.{right_of, task_row}
+use Rattle.equations.specs.Row.{work, RowBounds}
 use Rattle.equations.specs.RowLaws.{row_bounds}
-use Rattle.equations.specs.Beside.{row_of}
 use Rattle.equations.specs.BesideLaws.{proper_of, Lighter, busy_lighter, row_bounds_lighter}
 use Rattle.bounds.specs.declared.Bounded.{Bounded}
 use Rattle.bounds.specs.declared.Bounded.TheVariants.{Verdict, Refused}
 use Rattle.bounds.specs.SlackLaws.{less_sign, less_mono}
-use Rattle.bounds.specs.Bounds.{limit, equations, Numbers, Analysis, chain_bound, slack_of, accepted, Lists, needed, filled_in, Stuck, Given, Refusing, no_plan, too_short, no_busy_length, Bounding}
+use Rattle.bounds.specs.Bounds.{limit, equations, Numbers, Analysis, chain_bound, slack_of, accepted, Lists, needed, filled_in, Refusing, no_plan, too_short, no_busy_length, Bounding}
 use Rattle.bounds.specs.BoundsLaws.{step_row, never_stuck}
 use Rattle.bounds.specs.NoHarder.{NoHarder, NoLarger}
 

@@ -1,5 +1,5 @@
 -- Laws of the room in the lent lists.
-use Rattle.std.specs.Prelude.{◌≡◌, refl, ◌&&◌, List, ℕ, ◌≤◌, ◌<◌, leb, length}
+use Rattle.std.specs.Prelude.{◌≡◌, refl, List, ℕ, ◌≤◌, ◌<◌, length}
 use Rattle.std.proofs.Common.{◌∙◌}
 use native.Mathlib.Omega.{arith, by_contra}
 use borrow.Author.Tests.{le-leb, lt-leb}

@@ -1,6 +1,8 @@
 // The bounds of a plan (document 01, "Bounds"): busy length, instances and bound of each row, bound and slack of each
 // chain, and whether the plan is accepted. `bound` is all that is public.
 
+#![tactic(auto)]
+
 mod chains;
 
 ghost use Rattle.std.specs.Prelude.{◌≡◌};
@@ -14,7 +16,7 @@ use planned::plan::{View, view_rows};
 use table::refusal::Refusal;
 
 // What the bounds answer.
-#[derive(Drop)]
+#[derive(Clone, Copy)]
 pub enum Bounded {
     // 1 if the plan is accepted, else 0: every slack is zero or more, or one is not.
     Verdict(u64),

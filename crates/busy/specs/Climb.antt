@@ -3,7 +3,6 @@
 use Rattle.std.specs.Prelude.{◌≡◌, Bool, cond, not, List, ℕ, suc, max, ◌+◌, ◌*◌, ◌-◌, ◌≤◌, ◌<◌, eqb, length}
 use Rattle.facts.specs.Sums.{sum, sum_if}
 use Rattle.facts.specs.Rounding.{ceil}
-use Rattle.facts.specs.Least.{Least}
 use Rattle.facts.specs.LeastLaws.{Below}
 use Rattle.facts.specs.Filled.{filled}
 use Rattle.table.specs.Table.{at}

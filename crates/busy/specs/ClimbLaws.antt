@@ -1,24 +1,23 @@
 -- The climb to the busy length of rows gathered side by side, step by step.
-use Rattle.std.specs.Prelude.{◌≡◌, refl, Bool, true, false, cond, ◌&&◌, List, [], ℕ, zero, suc, max, min, ◌+◌, ◌*◌, ◌-◌, ◌≤◌, ◌<◌, eqb, length, replicate, set}
+use Rattle.std.specs.Prelude.{◌≡◌, refl, Bool, true, false, cond, List, [], ℕ, zero, suc, max, min, ◌+◌, ◌*◌, ◌-◌, ◌≤◌, ◌<◌, eqb, length, replicate, set}
 use Rattle.std.proofs.Math.Path.{ap, sym}
 use Rattle.std.proofs.Common.{◌∙◌, mul-le-mul_left, add-mul, length-set, get_or-set_same, Fits, eqb-true, eq-eqb, ne_eqb, below_more as more_below}
 use Rattle.std.proofs.Math.Bool.{not}
 use Rattle.std.proofs.Math.Nat.{mul-le-mul_right, mul-le-mul}
 use native.Mathlib.Omega.{arith, both_ways, by_contra}
-use Rattle.std.proofs.Math.Decide.{dec_le, dec_lt}
+use Rattle.std.proofs.Math.Decide.{dec_lt}
 use Rattle.std.specs.Int.{w64}
-use Rattle.std.proofs.lemmas.Bool.{eqb-false}
 use Rattle.facts.specs.Sums.{sum, sum_if}
 use Rattle.facts.specs.SumsLaws.{sum_none, sum_more, sum_mono, sum_ext, sum_add, sum_has, sum_bound, sum_if_mono, sum_if_without}
 use Rattle.facts.specs.Rounding.{ceil}
-use Rattle.facts.specs.RoundingLaws.{ceil_le, le_ceil, ceil_mono, ceil_pos, ceil_tight, ceil_count}
+use Rattle.facts.specs.RoundingLaws.{ceil_le, ceil_mono, ceil_pos, ceil_tight}
 use Rattle.facts.specs.Least.{Least, Unanswered}
-use Rattle.facts.specs.LeastLaws.{Rising, Below, below_one, below_step, below_part, below_rises, below_stop, below_past, least_below}
+use Rattle.facts.specs.LeastLaws.{Rising, below_one, below_step, below_part, below_rises, below_stop, below_past}
 use Rattle.facts.specs.Filled.{filled}
 use Rattle.facts.specs.FilledLaws.{get_d_filled, get_d_rest, filled_none, filled_more, filled_keep}
 use Rattle.table.specs.Table.{at}
 use Rattle.equations.specs.Row.{Row, work, work_to, Greatest}
-use Rattle.equations.specs.RowLaws.{Proper, work_to_sum, work_to_more, work_to_rising, SoFar, none, some, greatest_more}
+use Rattle.equations.specs.RowLaws.{Proper, work_to_sum, work_to_more, work_to_rising, none, some, greatest_more}
 use Rattle.busy.specs.General.{below_more, ceil_on, ceil_one, ceil_zero, least_ext, still_there, filled_turn, filled_stays}
 use Rattle.busy.specs.Climb.{Ranged, work_of, gathered_row, came, Begun, Advanced, ended, later_next, Settled, Progress, Climbing, Sought, Zeros}
 

@@ -8,7 +8,7 @@ use Rattle.std.specs.Int.{w64}
 use Rattle.facts.specs.Filled.{filled}
 use Rattle.facts.specs.FilledLaws.{get_d_rest, filled_more, filled_keep}
 use Rattle.facts.specs.Rounding.{ceil}
-use Rattle.facts.specs.RoundingLaws.{ceil_le, le_ceil, ceil_tight, ceil_count}
+use Rattle.facts.specs.RoundingLaws.{ceil_le, le_ceil, ceil_count}
 use Rattle.facts.specs.Least.{Least, Unanswered}
 use Rattle.facts.specs.LeastLaws.{Below}
 

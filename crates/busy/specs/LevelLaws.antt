@@ -1,27 +1,27 @@
 -- Laws of a level as it is gathered and solved.
-use Rattle.std.specs.Prelude.{◌≡◌, Bool, ◌&&◌, List, ℕ, zero, suc, ◌+◌, ◌*◌, ◌-◌, ◌≤◌, ◌<◌, length, get_or, set, ◌⊎◌}
+use Rattle.std.specs.Prelude.{◌≡◌, Bool, ◌&&◌, List, ℕ, ◌+◌, ◌*◌, ◌-◌, ◌≤◌, ◌<◌, length, set, ◌⊎◌}
 use Rattle.std.proofs.Math.Path.{refl, ap, sym}
-use Rattle.std.proofs.Common.{◌∙◌, add-zero, length-set, below_more as more_below, inl, inr}
+use Rattle.std.proofs.Common.{◌∙◌, length-set, below_more as more_below, inl, inr}
 use Rattle.std.proofs.Math.Bool.{true, false, cond}
 use native.Mathlib.Omega.{arith}
 use Rattle.std.proofs.Math.Nat.{add_assoc}
-use Rattle.std.proofs.Math.Decide.{dec_lt, dec_le, ℕ_discrete}
+use Rattle.std.proofs.Math.Decide.{dec_lt, ℕ_discrete}
 use Rattle.std.proofs.Math.Dec.{ltb, leb, eqb}
-use borrow.Author.Tests.{eq-eqb, ne_eqb, eqb-true, eqb-false, lt-ltb, le-ltb, le-leb, lt-leb, ltb-true}
-use Rattle.facts.specs.Sums.{sum, sum_if}
+use borrow.Author.Tests.{eq-eqb, ne_eqb, eqb-true, lt-ltb, le-ltb, le-leb, lt-leb}
+use Rattle.facts.specs.Sums.{sum_if}
 use Rattle.facts.specs.SumsLaws.{sum_part, sum_none, sum_if_none, sum_ext, sum_add}
 use Rattle.facts.specs.TestsLaws.{and_left, and_right}
 use Rattle.facts.specs.Rounding.{ceil}
 use Rattle.table.specs.Table.{at}
 use Rattle.table.specs.Plan.{Plan}
-use Rattle.equations.specs.Row.{Row, work, Greatest, RowBounds}
+use Rattle.equations.specs.Row.{work, Greatest, RowBounds}
 use Rattle.equations.specs.Beside.{level, row_of}
 use Rattle.equations.specs.RowLaws.{row_ext}
 use Rattle.equations.specs.BesideLaws.{Tied, work_level, work_tied}
 use Rattle.facts.specs.Least.{Least, Unanswered}
 use Rattle.busy.specs.General.{least_ext, unanswered_ext}
-use Rattle.busy.specs.Collected.{count_if, collected, scattered}
-use Rattle.busy.specs.CollectedLaws.{count_apart, count_yes, count_no, collected_none, collected_yes, collected_no, length_collected, collected_kept, Holds, held, found, sum_collected, Lies, missed, hit, lies}
+use Rattle.busy.specs.Collected.{count_if, collected}
+use Rattle.busy.specs.CollectedLaws.{count_apart, count_yes, count_no, collected_yes, collected_no, length_collected, collected_kept, Holds, held, found, sum_collected, Lies, missed, hit, lies}
 use Rattle.busy.specs.Climb.{Ranged, work_of, gathered_row}
 use Rattle.busy.specs.ClimbLaws.{work_gathered}
 use Rattle.busy.specs.Level.{Level, level_by, Roomy, Lent, plan_by, Usable, chosen, chosen_in, gathered, Sound, level_work, level_row, LevelOf, TiedBounds, Laid, Solved, Analysed, Partly, Going}

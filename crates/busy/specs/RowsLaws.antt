@@ -1,13 +1,12 @@
 -- What viewing a table's rows into lists of 128 entries comes to.
-use Rattle.std.specs.Prelude.{◌≡◌, refl, Bool, true, false, cond, ◌&&◌, List, ℕ, ◌≤◌, ◌<◌, leb, length}
+use Rattle.std.specs.Prelude.{◌≡◌, refl, Bool, true, false, List, ℕ, leb, length}
 use Rattle.std.proofs.Common.{ap, sym, ◌∙◌, arith, le-leb}
 use Rattle.facts.specs.Filled.{filled}
-use Rattle.planned.specs.declared.plan.View.{View}
 use Rattle.planned.specs.declared.plan.View.TheVariants.{Rows, Refused}
 use Rattle.table.specs.declared.refusal.Refusal.{Refusal}
 use Rattle.table.specs.declared.refusal.Refusal.TheVariants.{NotAPlan}
 use Rattle.table.specs.Table.{Table, rows, is_plan}
-use Rattle.table.specs.TableLaws.{Checked, checked}
+use Rattle.table.specs.TableLaws.{checked}
 use Rattle.table.specs.Plan.{plan_of}
 use Rattle.planned.specs.View.{Viewed, viewed}
 use Rattle.busy.specs.Rows.{Viewing, plan, none}

@@ -9,7 +9,7 @@ ghost use Rattle.busy.specs.Climb.{Advanced, Begun, Ranged, Zeros};
 ghost use Rattle.busy.specs.Level.{LevelOf, Roomy, Usable, chosen, chosen_in, gathered, level_by, plan_by};
 
 // How many rows a level has. The ones tied with the row asked about come first, then the more urgent ones.
-#[derive(Drop)]
+#[derive(Clone, Copy)]
 pub(crate) struct Counts {
     pub(crate) tied: usize,
     pub(crate) count: usize,

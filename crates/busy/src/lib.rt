@@ -1,6 +1,8 @@
 // The numbers of a plan's rows (document 01, "Bounds"): busy length, instances and bound of each. `row_bounds` is all that
 // is public.
 
+#![tactic(auto)]
+
 mod ends;
 mod level;
 mod rows;
@@ -16,7 +18,7 @@ use planned::plan::{View, long_enough, view_rows};
 use table::refusal::Refusal;
 
 // What numbering the rows answers.
-#[derive(Drop)]
+#[derive(Clone, Copy)]
 pub enum Numbered {
     // How many rows there are.
     Rows(u64),

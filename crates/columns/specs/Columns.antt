@@ -1,5 +1,5 @@
 -- A table by value, and its records (document 01, "The plan on paper": rows are held as records, one for each step).
-use Rattle.std.specs.Prelude.{ℕ, cond, leb, set, replicate}
+use Rattle.std.specs.Prelude.{ℕ, set, replicate}
 use Rattle.table.specs.Table.{Table, table_of, at}
 use Rattle.columns.specs.declared.columns.Columns.{Columns}
 use Rattle.columns.specs.declared.columns.Chain.{Chain}

@@ -4,7 +4,7 @@ ghost use Rattle.std.specs.Prelude.{◌≡◌, ◌<◌};
 ghost use Rattle.columns.specs.Columns.{blank_of, chain_of, row_of, with_chain, with_row};
 
 // The numbers of one task.
-#[derive(Drop)]
+#[derive(Clone, Copy)]
 pub struct Chain {
     pub period: u64,
     pub deadline: u64,
@@ -12,7 +12,7 @@ pub struct Chain {
 }
 
 // The numbers of one row.
-#[derive(Drop)]
+#[derive(Clone, Copy)]
 pub struct Row {
     pub processor: u64,
     pub priority: u64,
@@ -20,7 +20,7 @@ pub struct Row {
 }
 
 // A table's counts and columns.
-#[derive(Drop)]
+#[derive(Clone, Copy)]
 pub struct Columns {
     pub processors: u64,
     pub tasks: u64,

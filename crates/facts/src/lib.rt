@@ -1,1 +1,2 @@
 // Mathematics that knows no plan: definitions and laws alone, no function.
+#![tactic(auto)]

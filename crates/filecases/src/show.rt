@@ -3,7 +3,6 @@
 ghost use Rattle.std.specs.Prelude.{◌≤◌};
 
 use crate::build::{small_plan, within};
-use libc::STDOUT_FILENO;
 use planfile::read::{Counts, Reading, read};
 use planfile::write::{Writing, write};
 use planned::plan::{View, view_rows};
@@ -12,20 +11,25 @@ use table::refusal::{number_of, place_of};
 // What each entry holds before a file is read.
 const UNTOUCHED: u64 = 7;
 
+// Prints bytes; a write that fails is passed over, as it changes no other answer.
+pub(crate) fn put(rt: &HostRuntime, bytes: &[u8]) {
+    let _ = rt.write_all(bytes);
+}
+
 // Prints a blank and a number.
-pub(crate) fn say(number: u64) {
-    io::write_all(STDOUT_FILENO, b" ");
-    io::print_decimal(STDOUT_FILENO, number);
+pub(crate) fn say(rt: &HostRuntime, number: u64) {
+    put(rt, b" ");
+    let _ = rt.print(number);
 }
 
 // Prints a blank, a word and whether it holds.
-pub(crate) fn say_whether(word: &[u8], holds: bool) {
-    io::write_all(STDOUT_FILENO, b" ");
-    io::write_all(STDOUT_FILENO, word);
+pub(crate) fn say_whether(rt: &HostRuntime, word: &[u8], holds: bool) {
+    put(rt, b" ");
+    put(rt, word);
     if holds {
-        say(1);
+        say(rt, 1);
     } else {
-        say(0);
+        say(rt, 0);
     }
 }
 
@@ -132,6 +136,7 @@ pub(crate) fn rows_of(
 
 // Says what a file's table is.
 fn say_table(
+    rt: &HostRuntime,
     file: &[u8],
     counts: Counts,
     period: &[u64],
@@ -149,16 +154,17 @@ fn say_table(
     let past = all_stayed(
         tasks, rows, period, deadline, steps, processor, priority, time,
     );
-    io::write_all(STDOUT_FILENO, b" read");
-    say(counts.processors);
-    say(tasks);
-    say(rows);
-    say_whether(b"same", same);
-    say_whether(b"past", past);
+    put(rt, b" read");
+    say(rt, counts.processors);
+    say(rt, tasks);
+    say(rt, rows);
+    say_whether(rt, b"same", same);
+    say_whether(rt, b"past", past);
 }
 
 // Reads a file into these lists, which are untouched, and says how that went.
 fn show_in(
+    rt: &HostRuntime,
     name: &[u8],
     file: &[u8],
     period: &mut [u64],
@@ -168,40 +174,40 @@ fn show_in(
     priority: &mut [u64],
     time: &mut [u64],
 ) {
-    io::write_all(STDOUT_FILENO, name);
-    io::write_all(STDOUT_FILENO, b":");
+    put(rt, name);
+    put(rt, b":");
     match read(file, period, deadline, steps, processor, priority, time) {
         Reading::Read(counts) => {
             say_table(
-                file, counts, period, deadline, steps, processor, priority, time,
+                rt, file, counts, period, deadline, steps, processor, priority, time,
             );
         }
         Reading::Refused(refusal) => {
             let kept = all_stayed(0, 0, period, deadline, steps, processor, priority, time);
-            say(number_of(refusal));
-            say(place_of(refusal));
-            say_whether(b"kept", kept);
+            say(rt, number_of(refusal));
+            say(rt, place_of(refusal));
+            say_whether(rt, b"kept", kept);
         }
     }
-    io::write_all(STDOUT_FILENO, b"\n");
+    put(rt, b"\n");
 }
 
 // Reads a file into lists with room for any table.
-pub(crate) fn show(name: &[u8], file: &[u8]) {
-    show_room(name, file, 32, 128);
+pub(crate) fn show(rt: &HostRuntime, name: &[u8], file: &[u8]) {
+    show_room(rt, name, file, 32, 128);
 }
 
 // Reads a small plan into lists with room for so many tasks and rows.
-pub(crate) fn show_short(name: &[u8], tasks: usize, rows: usize)
+pub(crate) fn show_short(rt: &HostRuntime, name: &[u8], tasks: usize, rows: usize)
     requires { (tasks ≤ 32) × (rows ≤ 128) }
 {
     let mut file = [0u8; 256];
     let end = within(small_plan(&mut file, 10), &file);
-    show_room(name, &file[..end], tasks, rows);
+    show_room(rt, name, &file[..end], tasks, rows);
 }
 
 // Reads a file into lists with room for so many tasks and rows.
-fn show_room(name: &[u8], file: &[u8], tasks: usize, rows: usize)
+fn show_room(rt: &HostRuntime, name: &[u8], file: &[u8], tasks: usize, rows: usize)
     requires { (tasks ≤ 32) × (rows ≤ 128) }
 {
     let mut period = [UNTOUCHED; 32];
@@ -211,6 +217,7 @@ fn show_room(name: &[u8], file: &[u8], tasks: usize, rows: usize)
     let mut priority = [UNTOUCHED; 128];
     let mut time = [UNTOUCHED; 128];
     show_in(
+        rt,
         name,
         file,
         &mut period[..tasks],

@@ -1,9 +1,8 @@
 // The tables that are written. The numbers of a case stand in the file's order: processors, tasks, period, deadline, steps,
 // processor, priority, time; then the room of the output.
 
-use crate::show::say;
+use crate::show::{put, say};
 use crate::written::show_written;
-use libc::STDOUT_FILENO;
 
 // Room for any file, and for one of two tasks and four rows.
 const ROOM: usize = 8192;
@@ -12,6 +11,7 @@ const LITTLE_ROOM: usize = 256;
 
 // A table whose tasks are alike and whose rows are alike.
 fn try_alike(
+    rt: &HostRuntime,
     name: &[u8],
     processors: u64,
     tasks: u64,
@@ -30,6 +30,7 @@ fn try_alike(
     let priorities = [priority; 128];
     let times = [time; 128];
     show_written(
+        rt,
         name,
         processors,
         tasks,
@@ -63,7 +64,7 @@ fn spread(list: &mut [u64], first: u64, least: u64, most: u64) {
 }
 
 // A table of so many tasks with numbers spread over their ranges: tasks of 1, 3 and 7 steps, and every 28th deadline is 0.
-fn try_spread(tasks: u64) {
+fn try_spread(rt: &HostRuntime, tasks: u64) {
     let mut period = [0u64; 32];
     let mut deadline = [0u64; 32];
     let mut steps = [0u64; 32];
@@ -76,26 +77,27 @@ fn try_spread(tasks: u64) {
     spread(&mut processor, 1, 1, 16);
     spread(&mut priority, tasks, 1, 255);
     spread(&mut time, tasks, 1, 1000000);
-    io::write_all(STDOUT_FILENO, b"spread, tasks");
-    say(tasks);
+    put(rt, b"spread, tasks");
+    say(rt, tasks);
     show_written(
-        b"", 16, tasks, &period, &deadline, &steps, &processor, &priority, &time, ROOM,
+        rt, b"", 16, tasks, &period, &deadline, &steps, &processor, &priority, &time, ROOM,
     );
 }
 
 // Such tables of 1 to 32 tasks.
-pub(crate) fn spreads() {
+pub(crate) fn spreads(rt: &HostRuntime) {
     let mut tasks: u64 = 0;
     while tasks < 32 {
         tasks += 1;
-        try_spread(tasks);
+        try_spread(rt, tasks);
     }
 }
 
 // Tables that are plans.
-pub(crate) fn plans() {
-    try_alike(b"all at least", 1, 1, 1, 0, 1, 1, 1, 1, ROOM);
+pub(crate) fn plans(rt: &HostRuntime) {
+    try_alike(rt, b"all at least", 1, 1, 1, 0, 1, 1, 1, 1, ROOM);
     try_alike(
+        rt,
         b"all at most, 32 tasks, 128 rows",
         16,
         32,
@@ -108,6 +110,7 @@ pub(crate) fn plans() {
         ROOM,
     );
     try_alike(
+        rt,
         b"16 steps, 128 rows, deadlines 0",
         1,
         8,
@@ -122,16 +125,29 @@ pub(crate) fn plans() {
 }
 
 // Outputs that are exactly long enough and too short; no plan comes before too short.
-pub(crate) fn rooms() {
-    try_alike(b"room for all bytes", 1, 1, 1, 0, 1, 1, 1, 1, 93);
-    try_alike(b"room for all bytes but one", 1, 1, 1, 0, 1, 1, 1, 1, 92);
-    try_alike(b"no room", 1, 1, 1, 0, 1, 1, 1, 1, 0);
-    try_alike(b"no room and no plan", 1, 1, 0, 0, 1, 1, 1, 1, 0);
+pub(crate) fn rooms(rt: &HostRuntime) {
+    try_alike(rt, b"room for all bytes", 1, 1, 1, 0, 1, 1, 1, 1, 93);
+    try_alike(
+        rt,
+        b"room for all bytes but one",
+        1,
+        1,
+        1,
+        0,
+        1,
+        1,
+        1,
+        1,
+        92,
+    );
+    try_alike(rt, b"no room", 1, 1, 1, 0, 1, 1, 1, 1, 0);
+    try_alike(rt, b"no room and no plan", 1, 1, 0, 0, 1, 1, 1, 1, 0);
 }
 
 // Tables that are no plans by one number.
-pub(crate) fn no_plans() {
+pub(crate) fn no_plans(rt: &HostRuntime) {
     try_alike(
+        rt,
         b"written, processors 0",
         0,
         1,
@@ -144,6 +160,7 @@ pub(crate) fn no_plans() {
         LITTLE_ROOM,
     );
     try_alike(
+        rt,
         b"written, processors 17",
         17,
         1,
@@ -155,10 +172,35 @@ pub(crate) fn no_plans() {
         1,
         LITTLE_ROOM,
     );
-    try_alike(b"written, tasks 0", 1, 0, 1, 0, 1, 1, 1, 1, LITTLE_ROOM);
-    try_alike(b"written, tasks 33", 1, 33, 1, 0, 1, 1, 1, 1, LITTLE_ROOM);
-    try_alike(b"written, period 0", 1, 1, 0, 0, 1, 1, 1, 1, LITTLE_ROOM);
+    try_alike(rt, b"written, tasks 0", 1, 0, 1, 0, 1, 1, 1, 1, LITTLE_ROOM);
     try_alike(
+        rt,
+        b"written, tasks 33",
+        1,
+        33,
+        1,
+        0,
+        1,
+        1,
+        1,
+        1,
+        LITTLE_ROOM,
+    );
+    try_alike(
+        rt,
+        b"written, period 0",
+        1,
+        1,
+        0,
+        0,
+        1,
+        1,
+        1,
+        1,
+        LITTLE_ROOM,
+    );
+    try_alike(
+        rt,
         b"written, period 1000001",
         1,
         1,
@@ -171,6 +213,7 @@ pub(crate) fn no_plans() {
         LITTLE_ROOM,
     );
     try_alike(
+        rt,
         b"written, deadline 160000001",
         1,
         1,
@@ -182,12 +225,61 @@ pub(crate) fn no_plans() {
         1,
         LITTLE_ROOM,
     );
-    try_alike(b"written, steps 0", 1, 1, 1, 0, 0, 1, 1, 1, LITTLE_ROOM);
-    try_alike(b"written, steps 17", 1, 1, 1, 0, 17, 1, 1, 1, LITTLE_ROOM);
-    try_alike(b"written, 144 rows", 1, 9, 1, 0, 16, 1, 1, 1, LITTLE_ROOM);
-    try_alike(b"written, 160 rows", 1, 32, 1, 0, 5, 1, 1, 1, LITTLE_ROOM);
-    try_alike(b"written, processor 0", 1, 1, 1, 0, 1, 0, 1, 1, LITTLE_ROOM);
+    try_alike(rt, b"written, steps 0", 1, 1, 1, 0, 0, 1, 1, 1, LITTLE_ROOM);
     try_alike(
+        rt,
+        b"written, steps 17",
+        1,
+        1,
+        1,
+        0,
+        17,
+        1,
+        1,
+        1,
+        LITTLE_ROOM,
+    );
+    try_alike(
+        rt,
+        b"written, 144 rows",
+        1,
+        9,
+        1,
+        0,
+        16,
+        1,
+        1,
+        1,
+        LITTLE_ROOM,
+    );
+    try_alike(
+        rt,
+        b"written, 160 rows",
+        1,
+        32,
+        1,
+        0,
+        5,
+        1,
+        1,
+        1,
+        LITTLE_ROOM,
+    );
+    try_alike(
+        rt,
+        b"written, processor 0",
+        1,
+        1,
+        1,
+        0,
+        1,
+        0,
+        1,
+        1,
+        LITTLE_ROOM,
+    );
+    try_alike(
+        rt,
         b"written, processor 2 of 1",
         1,
         1,
@@ -199,8 +291,21 @@ pub(crate) fn no_plans() {
         1,
         LITTLE_ROOM,
     );
-    try_alike(b"written, priority 0", 1, 1, 1, 0, 1, 1, 0, 1, LITTLE_ROOM);
     try_alike(
+        rt,
+        b"written, priority 0",
+        1,
+        1,
+        1,
+        0,
+        1,
+        1,
+        0,
+        1,
+        LITTLE_ROOM,
+    );
+    try_alike(
+        rt,
         b"written, priority 256",
         1,
         1,
@@ -212,8 +317,9 @@ pub(crate) fn no_plans() {
         1,
         LITTLE_ROOM,
     );
-    try_alike(b"written, time 0", 1, 1, 1, 0, 1, 1, 1, 0, LITTLE_ROOM);
+    try_alike(rt, b"written, time 0", 1, 1, 1, 0, 1, 1, 1, 0, LITTLE_ROOM);
     try_alike(
+        rt,
         b"written, time 1000001",
         1,
         1,
@@ -228,8 +334,9 @@ pub(crate) fn no_plans() {
 }
 
 // Two tasks of two rows each in lists that just have them, and in lists of which one is too short.
-pub(crate) fn short_lists() {
+pub(crate) fn short_lists(rt: &HostRuntime) {
     show_written(
+        rt,
         b"lists of 2 and 4",
         1,
         2,
@@ -242,6 +349,7 @@ pub(crate) fn short_lists() {
         LITTLE_ROOM,
     );
     show_written(
+        rt,
         b"a task list of 1",
         1,
         2,
@@ -254,6 +362,7 @@ pub(crate) fn short_lists() {
         LITTLE_ROOM,
     );
     show_written(
+        rt,
         b"a row list of 3",
         1,
         2,

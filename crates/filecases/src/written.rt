@@ -1,8 +1,7 @@
 // Writing a table, reading it back, and saying how that went.
 
 use crate::build::within;
-use crate::show::{rows_of, say, say_whether, writes_back};
-use libc::STDOUT_FILENO;
+use crate::show::{put, rows_of, say, say_whether, writes_back};
 use planfile::read::{Counts, Reading, read};
 use planfile::write::{Writing, write};
 use table::refusal::{Refusal, number_of, place_of};
@@ -147,6 +146,7 @@ fn reads_back(
 
 // Says how a table was written, of which so many bytes stand in the output.
 fn say_written(
+    rt: &HostRuntime,
     bytes: u64,
     processors: u64,
     tasks: u64,
@@ -170,21 +170,22 @@ fn say_written(
         priority,
         time,
     );
-    io::write_all(STDOUT_FILENO, b" written");
-    say(bytes);
-    say_whether(b"back", back);
-    say_whether(b"past", stayed_from(out, end));
+    put(rt, b" written");
+    say(rt, bytes);
+    say_whether(rt, b"back", back);
+    say_whether(rt, b"past", stayed_from(out, end));
 }
 
 // Says why a table was not written.
-fn say_refused(refusal: Refusal, out: &[u8]) {
-    say(number_of(refusal));
-    say(place_of(refusal));
-    say_whether(b"kept", stayed_from(out, 0));
+fn say_refused(rt: &HostRuntime, refusal: Refusal, out: &[u8]) {
+    say(rt, number_of(refusal));
+    say(rt, place_of(refusal));
+    say_whether(rt, b"kept", stayed_from(out, 0));
 }
 
 // Writes a table into this output, which is untouched, and says how that went.
 fn show_in(
+    rt: &HostRuntime,
     name: &[u8],
     processors: u64,
     tasks: u64,
@@ -196,21 +197,22 @@ fn show_in(
     time: &[u64],
     out: &mut [u8],
 ) {
-    io::write_all(STDOUT_FILENO, name);
-    io::write_all(STDOUT_FILENO, b":");
+    put(rt, name);
+    put(rt, b":");
     match write(
         processors, tasks, period, deadline, steps, processor, priority, time, out,
     ) {
         Writing::Bytes(bytes) => say_written(
-            bytes, processors, tasks, period, deadline, steps, processor, priority, time, out,
+            rt, bytes, processors, tasks, period, deadline, steps, processor, priority, time, out,
         ),
-        Writing::Refused(refusal) => say_refused(refusal, out),
+        Writing::Refused(refusal) => say_refused(rt, refusal, out),
     }
-    io::write_all(STDOUT_FILENO, b"\n");
+    put(rt, b"\n");
 }
 
 // Writes a table into an output of so many bytes.
 pub(crate) fn show_written(
+    rt: &HostRuntime,
     name: &[u8],
     processors: u64,
     tasks: u64,
@@ -225,6 +227,7 @@ pub(crate) fn show_written(
     let mut out = [UNTOUCHED; 8192];
     let size = within(room, &out);
     show_in(
+        rt,
         name,
         processors,
         tasks,

@@ -1,3 +1,5 @@
 // When a run state in lent lists fits a plan.
 
+#![tactic(auto)]
+
 pub mod fits;

@@ -1,6 +1,6 @@
 -- What is said of the rows of a plan depends on its rows alone.
-use Rattle.std.specs.Prelude.{ℕ, zero, suc, pred, ◌+◌, ◌≤◌, ◌<◌, ◌≡◌, refl, Bool, true, false, cond, not, ◌&&◌, ◌||◌, ltb, eqb}
-use Rattle.std.proofs.Common.{sym, ◌∙◌, arith}
+use Rattle.std.specs.Prelude.{ℕ, ◌<◌, ◌≡◌, Bool, ◌&&◌}
+use Rattle.std.proofs.Common.{sym, ◌∙◌}
 use Rattle.std.proofs.Math.Path.{ap}
 use Rattle.std.proofs.Math.Dec.{leb}
 use Rattle.facts.specs.Tests.{all}
@@ -8,7 +8,6 @@ use Rattle.facts.specs.TestsLaws.{all_ext}
 use Rattle.table.specs.Plan.{Plan}
 use Rattle.table.specs.Refusals.{last_clock}
 use Rattle.guards.specs.Moment.{Moment}
-use Rattle.guards.specs.Running.{is_open}
 use Rattle.guards.specs.Fits.{row_fits, fits}
 
 -- Fitting reads periods, costs and which rows are first.

@@ -1,7 +1,7 @@
 -- An arrival at a row of a plan.
-use Rattle.std.specs.Prelude.{ℕ, zero, suc, pred, ◌+◌, ◌-◌, ◌≤◌, ◌<◌, ◌≡◌, ◌&&◌, leb, ltb, length, get_or}
+use Rattle.std.specs.Prelude.{ℕ, zero, suc, pred, ◌+◌, ◌-◌, ◌≤◌, ◌<◌, ◌≡◌, ◌&&◌, leb, ltb}
 use Rattle.std.proofs.Math.Path.{refl, ap}
-use Rattle.std.proofs.Common.{sym, ◌∙◌, arith}
+use Rattle.std.proofs.Common.{arith}
 use Rattle.std.proofs.Math.Bool.{true, cond}
 use borrow.Author.Tests.{eq-eqb, ne_eqb, leb-true}
 use Rattle.std.proofs.Math.Dec.{eqb}
@@ -10,7 +10,7 @@ use Rattle.facts.specs.Filled.{filled}
 use Rattle.facts.specs.TestsLaws.{and_left, and_right}
 use Rattle.table.specs.Table.{Table, at, first_row, rows}
 use Rattle.table.specs.TableLaws.{Checked}
-use Rattle.table.specs.Plan.{Plan, plan_of, cost}
+use Rattle.table.specs.Plan.{Plan, plan_of}
 use Rattle.table.specs.PlanLaws.{first_row_suc, first_row_mono, small_of}
 use Rattle.table.specs.declared.refusal.Refusal.TheVariants.{TooSoon}
 use Rattle.guards.specs.declared.state.State.{State}

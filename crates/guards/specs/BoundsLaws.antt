@@ -1,8 +1,6 @@
 -- The numbers of a state that fits are small.
-use Rattle.std.specs.Prelude.{ℕ, suc, pred, ◌+◌, ◌≤◌, ◌<◌, ◌≡◌, Bool, true, ◌&&◌, leb, ltb}
-use Rattle.std.proofs.Common.{sym, ◌∙◌}
+use Rattle.std.specs.Prelude.{ℕ, ◌+◌, ◌≤◌, ◌<◌, ◌≡◌, true, leb, ltb}
 use borrow.Author.Tests.{leb-true, ltb-true}
-use Rattle.facts.specs.Tests.{all}
 use Rattle.facts.specs.TestsLaws.{and_left, and_right, all_at}
 use Rattle.table.specs.Plan.{Plan}
 use Rattle.table.specs.Refusals.{last_clock}

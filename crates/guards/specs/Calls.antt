@@ -19,7 +19,6 @@ use Rattle.table.specs.declared.refusal.Refusal.TheVariants.{
   StateDoesNotFit,
 }
 use Rattle.guards.specs.declared.state.State.{State}
-use Rattle.guards.specs.declared.state.Answer.{Answer}
 use Rattle.guards.specs.declared.state.Answer.TheVariants.{Taken, Refused}
 use Rattle.guards.specs.declared.state.Outcome.{Outcome}
 use Rattle.guards.specs.Moment.{Moment, moment_of, state_with}

@@ -7,8 +7,7 @@ use Rattle.table.specs.Plan.{plan_of}
 use Rattle.table.specs.Refusals.{last_clock}
 use Rattle.table.specs.declared.refusal.Refusal.{Refusal}
 use Rattle.guards.specs.declared.state.State.{State}
-use Rattle.guards.specs.declared.state.Answer.{Answer}
-use Rattle.guards.specs.declared.state.Answer.TheVariants.{Taken, Refused}
+use Rattle.guards.specs.declared.state.Answer.TheVariants.{Refused}
 use Rattle.guards.specs.declared.state.Outcome.{Outcome}
 use Rattle.guards.specs.Rows.{Rows}
 use Rattle.guards.specs.Moment.{moment_of}

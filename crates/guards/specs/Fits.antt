@@ -1,5 +1,5 @@
 -- When a state fits a plan (document 01, "Guards": "A state fits a plan if ..").
-use Rattle.std.specs.Prelude.{ℕ, suc, pred, ◌+◌, Bool, cond, not, ◌&&◌, ◌||◌, leb, ltb, eqb}
+use Rattle.std.specs.Prelude.{ℕ, pred, ◌+◌, Bool, cond, not, ◌&&◌, ◌||◌, leb, ltb, eqb}
 use Rattle.facts.specs.Tests.{all}
 use Rattle.table.specs.Plan.{Plan}
 use Rattle.table.specs.Refusals.{last_clock}

@@ -13,7 +13,6 @@ use Rattle.guards.specs.declared.state.State.{State}
 use Rattle.guards.specs.declared.state.Outcome.{Outcome}
 use Rattle.guards.specs.declared.state.Called.{Called}
 use Rattle.guards.specs.Moment.{moment_of}
-use Rattle.guards.specs.Machine.{start}
 use Rattle.guards.specs.Fits.{fits}
 use Rattle.guards.specs.Calls.{refused, taken, fresh_start, has_task, arrive}
 use Rattle.guards.specs.Arrival.{arrived_at}

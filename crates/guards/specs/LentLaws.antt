@@ -1,5 +1,5 @@
 -- What calls on lent lists come to.
-use Rattle.std.specs.Prelude.{ℕ, ◌+◌, ◌≤◌, ◌<◌, ◌≡◌, refl, Bool, true, false, not, ◌&&◌, List, [], ◌∷◌, leb, length, set}
+use Rattle.std.specs.Prelude.{ℕ, ◌+◌, ◌≤◌, ◌<◌, ◌≡◌, refl, Bool, true, false, ◌&&◌, List, [], ◌∷◌, leb, length, set}
 use Rattle.std.proofs.Common.{◌∙◌, ap, arith, length-set}
 use borrow.Author.Tests.{leb-true, le-leb, lt-leb}
 use Rattle.facts.specs.TestsLaws.{and_left, and_right, and_false}

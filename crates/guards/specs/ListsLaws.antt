@@ -1,6 +1,6 @@
 -- Laws of lists that are filled, stored into and filled again.
 use Rattle.std.specs.Prelude.{ℕ, ◌≤◌, ◌<◌, ◌≡◌, refl, List, length, get_or, set}
-use Rattle.std.proofs.Common.{sym, ◌∙◌, ap, arith, length-set, ext_get_or, get_or-set_same, get_or-set_other}
+use Rattle.std.proofs.Common.{sym, ◌∙◌, arith, length-set, ext_get_or, get_or-set_same, get_or-set_other}
 use Rattle.std.proofs.Math.Decide.{dec_lt, ℕ_discrete}
 use Rattle.facts.specs.Filled.{tab, filled}
 use Rattle.facts.specs.FilledLaws.{length_tab, length_filled, get_d_tab, get_d_filled, get_d_rest}

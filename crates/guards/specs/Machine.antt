@@ -1,5 +1,5 @@
 -- What the calls do to the rows (document 01, "Guards").
-use Rattle.std.specs.Prelude.{ℕ, suc, pred, ◌+◌, Bool, cond, not, ◌&&◌, leb, ltb, eqb}
+use Rattle.std.specs.Prelude.{ℕ, pred, ◌+◌, Bool, cond, not, ◌&&◌, leb, ltb, eqb}
 use Rattle.facts.specs.Tests.{all}
 use Rattle.table.specs.Plan.{Plan}
 use Rattle.guards.specs.Moment.{Moment}

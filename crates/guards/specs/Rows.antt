@@ -1,5 +1,5 @@
 -- A plan's rows in the lists that the calls read.
-use Rattle.std.specs.Prelude.{ℕ, ◌+◌, ◌≤◌, ◌<◌, ◌≡◌, Bool, true, false, cond, not, ◌&&◌, ◌||◌, List, [], leb, ltb, eqb, length, get_or}
+use Rattle.std.specs.Prelude.{ℕ, ◌+◌, Bool, false, cond, not, ◌&&◌, ◌||◌, List, [], leb, ltb, eqb, length, get_or}
 use Rattle.table.specs.Table.{Table, at, most_rows}
 use Rattle.table.specs.Plan.{Plan}
 use Rattle.planned.specs.View.{viewed}

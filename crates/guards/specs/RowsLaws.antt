@@ -1,10 +1,9 @@
 -- What the rows in their lists say of the plan.
-use Rattle.std.specs.Prelude.{ℕ, ◌≤◌, ◌<◌, ◌≡◌, Bool, true, cond, ◌&&◌, List, length, get_or}
+use Rattle.std.specs.Prelude.{ℕ, ◌≤◌, ◌<◌, ◌≡◌, Bool, true, List, length, get_or}
 use Rattle.std.proofs.Math.Path.{refl}
 use Rattle.std.proofs.Common.{sym, ◌∙◌, ap, subst, arith}
 use Rattle.std.proofs.Math.Bool.{false}
 use borrow.Author.Tests.{le-leb}
-use Rattle.facts.specs.TestsLaws.{clash}
 use Rattle.facts.specs.FilledLaws.{get_d_filled, length_filled}
 use Rattle.table.specs.Table.{Table, at, rows, is_plan}
 use Rattle.table.specs.TableLaws.{Checked, checked}

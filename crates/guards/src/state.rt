@@ -9,7 +9,7 @@ use table::refusal::Refusal;
 // The clock of a run ends here.
 pub const LAST_CLOCK: u64 = 1000000000000;
 
-#[derive(Drop)]
+#[derive(Clone, Copy)]
 pub struct State {
     pub clock: u64,
     pub released: [u64; 128],
@@ -19,21 +19,21 @@ pub struct State {
 }
 
 // What a call answers: a number, or why it is refused.
-#[derive(Drop)]
+#[derive(Clone, Copy)]
 pub enum Answer {
     Taken(u64),
     Refused(Refusal),
 }
 
 // The answer of a call and the state after it.
-#[derive(Drop)]
+#[derive(Clone, Copy)]
 pub struct Outcome {
     pub answer: Answer,
     pub state: State,
 }
 
 // The answer of a call and the clock after it; the rows are in the lists that were lent to it.
-#[derive(Drop)]
+#[derive(Clone, Copy)]
 pub struct Called {
     pub answer: Answer,
     pub clock: u64,

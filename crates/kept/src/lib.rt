@@ -1,5 +1,7 @@
 // One state is kept, and each call updates it: thin calls over a lent state, above the calls by value.
 
+#![tactic(auto)]
+
 mod outcome;
 
 ghost use Rattle.std.specs.Prelude.{◌≡◌};

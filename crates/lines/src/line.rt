@@ -7,7 +7,7 @@ ghost use Rattle.lines.specs.LineLaws.{line_headed};
 use table::keys;
 
 // What stands in a line: its value and where the next line starts, or a fault of form.
-#[derive(Drop)]
+#[derive(Clone, Copy)]
 pub enum Line {
     Value(u64, usize),
     Fault,

@@ -26,4 +26,3 @@ pub mod StoreLaws
 pub mod ReaderLaws
 pub mod Writer
 pub mod WriterLaws
-pub mod CallsLaws

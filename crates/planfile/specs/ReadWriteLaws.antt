@@ -8,7 +8,7 @@ use Rattle.std.proofs.Math.Dec.{ltb}
 use Rattle.std.proofs.Math.Seq.{take-append_seam}
 use Rattle.facts.specs.Filled.{laid}
 use Rattle.table.specs.Keys.{no_key}
-use Rattle.table.specs.Table.{Table, at, rows, is_plan, long_enough}
+use Rattle.table.specs.Table.{Table, is_plan, long_enough}
 use Rattle.table.specs.TableLaws.{Long, long_of, long_true}
 use Rattle.table.specs.declared.refusal.Refusal.{Refusal}
 use Rattle.table.specs.declared.refusal.Refusal.TheVariants.{FileTooLong, NotAPlan, TooShort}

@@ -7,7 +7,7 @@ ghost use Rattle.planfile.specs.DueLaws.{Few};
 use table::keys;
 
 // The key due and the counts so far: processors, tasks, tasks with a `steps` line, rows with a `time` line, rows asked for.
-#[derive(Drop)]
+#[derive(Clone, Copy)]
 pub struct Due {
     pub key: usize,
     pub processors: u64,

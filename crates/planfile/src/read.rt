@@ -19,14 +19,14 @@ use table::ranges::in_range;
 use table::refusal::Refusal;
 
 // The counts of a table.
-#[derive(Drop)]
+#[derive(Clone, Copy)]
 pub struct Counts {
     pub processors: u64,
     pub tasks: u64,
 }
 
 // What reading answers.
-#[derive(Drop)]
+#[derive(Clone, Copy)]
 pub enum Reading {
     Read(Counts),
     Refused(Refusal),
@@ -42,14 +42,14 @@ const MOST_ROWS: u64 = 128;
 const MOST_TASKS: u64 = 32;
 
 // A line that is judged: its value and where the next line starts, or why it is refused.
-#[derive(Drop)]
+#[derive(Clone, Copy)]
 enum Judged {
     Right(u64, usize),
     Wrong(Refusal),
 }
 
 // What the lines hold: a table with these counts and so many rows, or a refusal.
-#[derive(Drop)]
+#[derive(Clone, Copy)]
 enum Found {
     Table(Counts, u64),
     Refused(Refusal),

@@ -20,7 +20,7 @@ use table::refusal::Refusal;
 use text::{append, append_line};
 
 // What writing answers: the number of bytes, or why it is refused.
-#[derive(Drop)]
+#[derive(Clone, Copy)]
 pub enum Writing {
     Bytes(u64),
     Refused(Refusal),

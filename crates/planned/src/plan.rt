@@ -109,7 +109,7 @@ pub fn is_plan(
 }
 
 // How many rows a plan has, or why a table has none.
-#[derive(Drop)]
+#[derive(Clone, Copy)]
 pub enum View {
     Rows(u64),
     Refused(Refusal),

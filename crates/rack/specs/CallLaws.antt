@@ -1,7 +1,7 @@
 -- A call on byte lists: one that isn't tried, and one that is.
-use Rattle.std.specs.Prelude.{ℕ, ◌≡◌, Bool, true, false, cond, List, length}
+use Rattle.std.specs.Prelude.{ℕ, ◌≡◌, false, List, length}
 use Rattle.std.proofs.Math.Path.{refl}
-use Rattle.std.proofs.Common.{sym, ◌∙◌, ap}
+use Rattle.std.proofs.Common.{◌∙◌, ap}
 use Rattle.table.specs.Table.{Table, is_plan}
 use Rattle.table.specs.declared.refusal.Refusal.TheVariants.{NotAPlan}
 use Rattle.guards.specs.declared.state.State.{State}

@@ -1,5 +1,5 @@
 -- Laws of the layouts: parts put together are the whole.
-use Rattle.std.specs.Prelude.{ℕ, min, ◌≡◌, refl, List, length, replicate}
+use Rattle.std.specs.Prelude.{ℕ, min, ◌≡◌, List, length, replicate}
 use Rattle.std.proofs.Common.{◌∙◌, ap}
 use Rattle.facts.specs.Sums.{sum}
 use Rattle.words.specs.Words.{word, with_word, gathered, with_field}

@@ -1,5 +1,5 @@
 -- The whole outcome of each call of the rack's host: the answer and every list as it then is (docs/LAYOUTS.md).
-use Rattle.std.specs.Prelude.{ℕ, Bool, cond, not, ◌&&◌, ◌≡◌, List, [], ltb, eqb, length, replicate}
+use Rattle.std.specs.Prelude.{ℕ, Bool, cond, ◌&&◌, ◌≡◌, List, [], ltb, eqb, length, replicate}
 use Rattle.table.specs.Table.{Table, rows, is_plan}
 use Rattle.table.specs.Refusals.{number_of, place_of}
 use Rattle.table.specs.declared.refusal.Refusal.{Refusal}

@@ -1,14 +1,13 @@
 -- A file read into a table list.
-use Rattle.std.specs.Prelude.{ℕ, min, ◌≤◌, ◌<◌, ◌≡◌, refl, true, List, length}
+use Rattle.std.specs.Prelude.{ℕ, min, ◌≤◌, ◌<◌, ◌≡◌, List, length}
 use Rattle.std.proofs.Common.{le-ltb, lt-ltb, sym, ◌∙◌, ap, subst, arith}
 use Rattle.facts.specs.Sums.{sum}
 use Rattle.words.specs.Words.{with_word, with_field}
-use Rattle.table.specs.Table.{Table, table_of, at, first_row, rows, is_plan}
+use Rattle.table.specs.Table.{Table, at, first_row, rows}
 use Rattle.table.specs.TableLaws.{Checked, checked}
 use Rattle.table.specs.declared.refusal.Refusal.{Refusal}
 use Rattle.table.specs.declared.refusal.Refusal.TheVariants.{TooShort}
 use Rattle.planfile.specs.declared.read.Counts.{Counts}
-use Rattle.planfile.specs.declared.read.Reading.{Reading}
 use Rattle.planfile.specs.declared.read.Reading.TheVariants.{Read, Refused}
 use Rattle.planfile.specs.Reading.{Lists, ReadOutcome, read}
 use Rattle.planfile.specs.Writing.{WriteOutcome}

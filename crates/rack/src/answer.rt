@@ -7,7 +7,7 @@ use table::refusal::{Refusal, number_of, place_of};
 
 // Number 0: the call is taken, and the value is its answer. Else the refusal's number, and its place.
 #[repr(C)]
-#[derive(Drop)]
+#[derive(Clone, Copy)]
 pub struct RackAnswer {
     pub number: u64,
     pub value: u64,

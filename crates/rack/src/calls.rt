@@ -24,7 +24,7 @@ const TABLE_BYTES: usize = 3856;
 const STATE_BYTES: usize = 4104;
 
 // What the host asks.
-#[derive(Drop)]
+#[derive(Clone, Copy)]
 pub enum Call {
     Fresh,
     Arrive(u64),

@@ -1,4 +1,7 @@
-// The rack's C boundary: table and state as byte lists (docs/LAYOUTS.md), every call answered by a number and a value.
+// The calls of the rack's C boundary: table and state as byte lists (docs/LAYOUTS.md), every call answered by a number and a
+// value. The archive for C is crates/rack_c, which gives each of them its C name.
+
+#![tactic(auto)]
 
 pub mod answer;
 pub mod calls;
@@ -20,8 +23,7 @@ const TABLE_BYTES: usize = 3856;
 
 // Reads a plan file into a table list: 7 for a list shorter than the layout, then the reader's refusals; the answer is the
 // number of rows.
-#[unsafe(no_mangle)]
-pub extern "C" fn rack_table(file: &[u8], table: &mut [u8]) -> RackAnswer
+pub fn rack_table(file: &[u8], table: &mut [u8]) -> RackAnswer
     ensures { ◌≡◌ {A = TableOutcome} (record { answer = result; table = table.new }) (rack_table file.now table.old) }
 {
     if table.len() < TABLE_BYTES {
@@ -59,8 +61,7 @@ pub extern "C" fn rack_table(file: &[u8], table: &mut [u8]) -> RackAnswer
 }
 
 // A fresh start of the guards: 5, then 14 for a wrong length alone; the clock and the plan's rows are set to 0.
-#[unsafe(no_mangle)]
-pub extern "C" fn rack_fresh(table: &[u8], state: &mut [u8]) -> RackAnswer
+pub fn rack_fresh(table: &[u8], state: &mut [u8]) -> RackAnswer
     ensures { ◌≡◌ {A = StateOutcome} (record { answer = result; state = state.new }) (rack_fresh table.now state.old) }
 {
     let done = [0u8; 1];
@@ -69,8 +70,7 @@ pub extern "C" fn rack_fresh(table: &[u8], state: &mut [u8]) -> RackAnswer
 }
 
 // A task arrives: 5, 14, 8, 9; the answer is the number of its chain's first row, which it releases.
-#[unsafe(no_mangle)]
-pub extern "C" fn rack_arrive(table: &[u8], state: &mut [u8], task: u64) -> RackAnswer
+pub fn rack_arrive(table: &[u8], state: &mut [u8], task: u64) -> RackAnswer
     ensures { ◌≡◌ {A = StateOutcome} (record { answer = result; state = state.new }) (rack_arrive table.now state.old task) }
 {
     let done = [0u8; 1];
@@ -79,21 +79,14 @@ pub extern "C" fn rack_arrive(table: &[u8], state: &mut [u8], task: u64) -> Rack
 }
 
 // One tick: 5, 14, 10, 7, 13, 11, 12; the answer is the new clock, and the release list has 1 for each row released.
-#[unsafe(no_mangle)]
-pub extern "C" fn rack_tick(
-    table: &[u8],
-    state: &mut [u8],
-    done: &[u8],
-    released: &mut [u8],
-) -> RackAnswer
+pub fn rack_tick(table: &[u8], state: &mut [u8], done: &[u8], released: &mut [u8]) -> RackAnswer
     ensures { ◌≡◌ {A = RackTickOutcome} (record { outcome = record { answer = result; state = state.new }; released = released.new }) (rack_tick table.now state.old done.now released.old) }
 {
     make(Call::Tick, table, state, done, released)
 }
 
 // Reads a plan file and writes its report: the reader's refusals, 6, 7; the answer is the number of bytes.
-#[unsafe(no_mangle)]
-pub extern "C" fn plan_report(file: &[u8], out: &mut [u8]) -> RackAnswer
+pub fn plan_report(file: &[u8], out: &mut [u8]) -> RackAnswer
     ensures { PlanReported file.now out.old result out.new }
 {
     let reporting = report_file(file, out);

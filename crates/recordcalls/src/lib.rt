@@ -1,5 +1,7 @@
 // The calls on one kept state, of a table whose tasks and rows are held as records in lent lists.
 
+#![tactic(auto)]
+
 ghost use Rattle.std.specs.Prelude.{◌≡◌};
 ghost use Rattle.guards.specs.Calls as calls;
 ghost use Rattle.guards.specs.Calls.{TickOutcome, fresh_start};

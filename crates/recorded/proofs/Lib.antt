@@ -1,5 +1,1 @@
-pub mod Asked
-pub mod Apart
-pub mod Output
-pub mod Parts
-pub mod Laid
+pub mod RecordsReadLaws

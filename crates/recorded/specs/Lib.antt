@@ -1,2 +1,1 @@
 pub mod RecordsRead
-pub mod RecordsReadLaws

@@ -1,5 +1,7 @@
 // A table held as records in lent lists, written, bounded, reported and read.
 
+#![tactic(auto)]
+
 mod sheet;
 
 ghost use Rattle.std.specs.Prelude.{◌≡◌};

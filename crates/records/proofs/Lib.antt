@@ -1,7 +1,0 @@
-pub mod Counted
-pub mod Got
-pub mod Laid
-pub mod Lesser
-pub mod Locals
-pub mod Taken
-pub mod Three

@@ -1,5 +1,5 @@
 -- Laws of tables held as records.
-use Rattle.std.specs.Prelude.{ℕ, zero, suc, min, ◌+◌, ◌≤◌, ◌<◌, ◌≡◌, Bool, true, false, ◌&&◌, List, map, leb, length, get_or, replicate}
+use Rattle.std.specs.Prelude.{ℕ, min, ◌+◌, ◌≤◌, ◌<◌, ◌≡◌, Bool, true, false, ◌&&◌, List, map, leb, length, get_or, replicate}
 use Rattle.std.proofs.Common.{arith, sym, ◌∙◌, leb-true}
 use Rattle.std.proofs.Math.Decide.{dec_lt, dec_le}
 use Rattle.std.proofs.Math.Path.{refl, ap}

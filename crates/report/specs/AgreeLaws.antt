@@ -6,14 +6,12 @@ use Rattle.std.proofs.Math.Bool.{cond}
 use Rattle.std.proofs.Math.Dec.{leb, eqb}
 use Rattle.std.specs.Int.Signed.{le_z}
 use Rattle.facts.specs.Tests.{all}
-use Rattle.facts.specs.Sums.{sum, sum_if}
 use Rattle.facts.specs.SumsLaws.{sum_ext, sum_if_ext}
 use Rattle.facts.specs.TestsLaws.{clash, all_ext}
 use Rattle.table.specs.Table.{Table, at, first_row, rows, is_plan}
 use Rattle.table.specs.TableLaws.{Checked, checked}
-use Rattle.table.specs.Plan.{Plan, plan_of, task_of, cost, in_force}
+use Rattle.table.specs.Plan.{plan_of, task_of, cost, in_force}
 use Rattle.table.specs.PlanLaws.{task_row}
-use Rattle.equations.specs.Row.{Row}
 use Rattle.equations.specs.Beside.{level, beside, demand, row_of}
 use Rattle.bounds.specs.Bounds.{Numbers, Analysis, Stuck, chain_bound, accepted, slack_of}
 use Rattle.report.specs.Load.{load_of, load}

@@ -6,7 +6,7 @@ use Rattle.facts.specs.Filled.{filled}
 use Rattle.facts.specs.FilledLaws.{get_d_filled, length_filled}
 use Rattle.facts.specs.TestsLaws.{clash}
 use Rattle.table.specs.declared.refusal.Refusal.{Refusal}
-use Rattle.table.specs.Table.{Table, at, rows, is_plan}
+use Rattle.table.specs.Table.{Table, rows, is_plan}
 use Rattle.table.specs.TableLaws.{checked, Long, long_true}
 use Rattle.table.specs.Plan.{plan_of, in_force}
 use Rattle.table.specs.PlanLaws.{right_of}

@@ -3,16 +3,15 @@ use Rattle.std.specs.Prelude.{ℕ, ◌+◌, ◌≤◌, ◌<◌, ◌≡◌, refl,
 use Rattle.std.proofs.Common.{ap, mul-le-mul_left}
 use native.Mathlib.Omega.{arith}
 use Rattle.std.proofs.Math.Decide.{dec_le}
-use Rattle.facts.specs.Sums.{sum}
 use Rattle.facts.specs.SumsLaws.{sum_bound}
 use Rattle.facts.specs.LeastLaws.{Answer, least_unique}
 use Rattle.facts.specs.Rounding.{ceil}
 use Rattle.facts.specs.RoundingLaws.{ceil_le}
 use Rattle.table.specs.Table.{Table, at, first_row, rows}
 use Rattle.table.specs.TableLaws.{Checked}
-use Rattle.table.specs.Plan.{plan_of, cost, in_force}
+use Rattle.table.specs.Plan.{plan_of, in_force}
 use Rattle.table.specs.PlanLaws.{right_of, small_of}
-use Rattle.equations.specs.Row.{Row, work, work_to, RowBounds}
+use Rattle.equations.specs.Row.{Row, work_to, RowBounds}
 use Rattle.equations.specs.RowLaws.{Proper, instance_answer}
 use Rattle.equations.specs.BesideLaws.{proper_of}
 use Rattle.bounds.specs.Bounds.{limit, Numbers, Analysis, chain_bound, slack_of, accepted}

@@ -1,10 +1,10 @@
 -- Laws of the report's text.
 use Rattle.std.specs.Prelude.{ℕ, ◌+◌, ◌^◌, ◌≤◌, ◌<◌, ◌≡◌, refl, Bool, true, false, List, ◌++◌, ℤ, pos, nat_abs, length, take}
-use Rattle.std.proofs.Common.{sym, ap, arith, length-append}
+use Rattle.std.proofs.Common.{sym, arith, length-append}
 use Rattle.std.specs.Int.Signed.{lt_z}
 use Rattle.facts.specs.Filled.{joined}
 use Rattle.facts.specs.FilledLaws.{joined_none, joined_more, joined_ext, joined_most}
-use Rattle.text.specs.Text.{Written, appended, bytes_of, decimal, line, minus_line}
+use Rattle.text.specs.Text.{Written, appended, bytes_of, line, minus_line}
 use Rattle.text.specs.TextLaws.{appended_none, appended_then, Placed, placed, length_line, length_minus_line}
 use Rattle.text.specs.NumeralLaws.{decimal_few}
 use Rattle.report.specs.Report.{Figures, report_of, row_lines, slack_line, task_lines, processor_lines}

@@ -1,5 +1,5 @@
 -- Any two outcomes of reporting are equal.
-use Rattle.std.specs.Prelude.{ℕ, suc, ◌+◌, ◌≤◌, ◌≡◌, List, ◌++◌, length, take, drop}
+use Rattle.std.specs.Prelude.{ℕ, suc, ◌≤◌, ◌≡◌, List, ◌++◌, length, take, drop}
 use Rattle.std.proofs.Common.{sym, ◌∙◌, ap, arith, take-append-drop}
 use Rattle.facts.specs.Filled.{laid}
 use Rattle.facts.specs.TestsLaws.{clash}
@@ -7,7 +7,6 @@ use Rattle.table.specs.declared.refusal.Refusal.TheVariants.{NoBusyLength}
 use Rattle.table.specs.Table.{Table}
 use Rattle.text.specs.Text.{Written, appended}
 use Rattle.text.specs.TextLaws.{Placed, appended_fits}
-use Rattle.planfile.specs.Reading.{table}
 use Rattle.bounds.specs.BoundsLaws.{never_stuck, stuck_one}
 use Rattle.report.specs.FiguresLaws.{report_one}
 use Rattle.report.specs.Reporting.{ReportOutcome, refused, delivered, Reported, no_plan, no_busy_length, given}

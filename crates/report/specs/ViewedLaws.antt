@@ -1,7 +1,6 @@
 -- What the view of a table's rows leaves to the report.
 use Rattle.std.specs.Prelude.{ℕ, ◌≤◌, ◌<◌, ◌≡◌, refl, Bool, true, false, List, [], length}
 use Rattle.std.proofs.Common.{subst, arith, le-leb}
-use Rattle.facts.specs.Filled.{filled}
 use Rattle.facts.specs.FilledLaws.{get_d_filled, length_filled}
 use Rattle.table.specs.declared.refusal.Refusal.{Refusal}
 use Rattle.table.specs.Table.{Table, at, rows, is_plan}

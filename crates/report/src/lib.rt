@@ -1,8 +1,9 @@
 // The report (document 01, "One plan and its report"): from a table, or from a file's bytes, to the report's bytes in one
 // call.
+#![tactic(auto)]
 
 mod delivery;
-mod lines;
+mod entries;
 mod load;
 mod sections;
 
@@ -17,7 +18,7 @@ use planned::plan::{View, view_rows};
 use table::refusal::Refusal;
 
 // What reporting answers: the number of bytes, or why it is refused.
-#[derive(Drop)]
+#[derive(Clone, Copy)]
 pub enum Reporting {
     Bytes(u64),
     Refused(Refusal),

@@ -11,7 +11,7 @@ ghost use Rattle.report.specs.LoadLaws.{Loads};
 ghost use Rattle.report.specs.Listed.{Filled, listed, listing, slack_at};
 ghost use Rattle.report.specs.Report.{processor_lines, report_of, row_lines, task_lines};
 
-use crate::lines::{append_processor, append_row, append_task};
+use crate::entries::{append_processor, append_row, append_task};
 use crate::load::load_of;
 use table::deadline::in_force;
 use text::append_line;

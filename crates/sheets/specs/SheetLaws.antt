@@ -9,7 +9,7 @@ use Rattle.table.specs.declared.refusal.Refusal.TheVariants.{TooShort}
 use Rattle.planfile.specs.declared.read.Counts.{Counts}
 use Rattle.planfile.specs.declared.read.Reading.{Reading}
 use Rattle.planfile.specs.declared.read.Reading.TheVariants.{Read, Refused}
-use Rattle.planfile.specs.Reading.{Lists, ReadOutcome, read}
+use Rattle.planfile.specs.Reading.{Lists, ReadOutcome}
 use Rattle.planfile.specs.Writing.{WriteOutcome}
 use Rattle.planfile.specs.Answered.{table_in}
 use Rattle.planfile.specs.ReadWriteLaws.{read_then_write, wrote}

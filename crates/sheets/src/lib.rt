@@ -1,3 +1,5 @@
 // Reading a plan file to a table by value: a sheet.
 
+#![tactic(auto)]
+
 pub mod sheet;

@@ -12,7 +12,7 @@ use planned::plan::{View, view_rows};
 use table::refusal::Refusal;
 
 // What reading gives: the answer, the table, and how many chain and row records are to be laid.
-#[derive(Drop)]
+#[derive(Clone, Copy)]
 pub struct Sheet {
     pub answer: Reading,
     pub columns: Columns,

@@ -1,5 +1,6 @@
 // The plan on paper (document 01): the ranges by key; the refusals with their numbers and places; the deadline in force of
 // a task. What a table and its rows are stands in specs/.
+#![tactic(auto)]
 
 pub mod deadline;
 pub mod keys;

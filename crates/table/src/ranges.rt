@@ -5,7 +5,7 @@ ghost use Rattle.table.specs.Ranges.{in_range, range_of};
 
 use crate::keys;
 
-#[derive(Drop)]
+#[derive(Clone, Copy)]
 pub struct Range {
     pub least: u64,
     pub most: u64,

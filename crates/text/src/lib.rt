@@ -1,5 +1,7 @@
 // Appending bytes, decimal numbers and `key=value` lines to a lent list of bytes. Each function writes from the place `at` on, as far as
 // the list has room, and answers the place behind the last byte that it wrote.
+#![tactic(auto)]
+
 mod decimal;
 
 ghost use Rattle.std.specs.Prelude.{◌≡◌, [], ◌∷◌, ◌++◌};

@@ -1,7 +1,7 @@
 -- The search for busy processors, one row at a time.
-use Rattle.std.specs.Prelude.{ℕ, suc, ◌+◌, ◌<◌, ◌≡◌, refl, Bool, true, false, ◌&&◌, eqb, set}
+use Rattle.std.specs.Prelude.{ℕ, ◌+◌, ◌<◌, ◌≡◌, refl, Bool, true, false, ◌&&◌, eqb, set}
 use Rattle.std.proofs.Math.Path.{sym}
-use Rattle.std.proofs.Common.{◌∙◌, ap, add-one, eq-eqb, ne_eqb}
+use Rattle.std.proofs.Common.{◌∙◌, add-one, eq-eqb, ne_eqb}
 use Rattle.std.proofs.Math.Bool.{not}
 use Rattle.facts.specs.Tests.{all}
 use Rattle.facts.specs.TestsLaws.{and_false}

@@ -1,5 +1,5 @@
 -- What is wrong with a done byte, given the row that runs: 0 for none, suc j for row j.
-use Rattle.std.specs.Prelude.{ℕ, suc, pred, ◌+◌, ◌≤◌, ◌<◌, Bool, ◌&&◌, ◌||◌, List, ltb, eqb, length}
+use Rattle.std.specs.Prelude.{ℕ, pred, ◌+◌, ◌≤◌, ◌<◌, Bool, ◌&&◌, ◌||◌, List, ltb, eqb, length}
 use Rattle.table.specs.Table.{at}
 
 -- It is above 1, or 1 where nothing runs.

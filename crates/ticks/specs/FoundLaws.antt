@@ -1,13 +1,13 @@
 -- The search for the row to run, one row at a time.
-use Prim.Native.Nat.{ℕ, zero, suc, pred, ◌+◌, ◌-◌, ◌≤◌, ◌<◌}
-use Rattle.std.specs.Prelude.{◌≡◌, refl, Bool, true, false, cond, ◌&&◌, List, [], ltb, eqb, get_or, set}
-use Rattle.std.proofs.Common.{sym, ◌∙◌, ap, add-one}
+use Prim.Native.Nat.{ℕ, zero, suc, ◌+◌, ◌-◌, ◌≤◌, ◌<◌}
+use Rattle.std.specs.Prelude.{◌≡◌, refl, Bool, true, false, cond, ◌&&◌, List, [], ltb, eqb, set}
+use Rattle.std.proofs.Common.{sym, ◌∙◌, add-one}
 use native.Mathlib.Omega.{arith}
 use borrow.Author.Tests.{eq-eqb, ne_eqb}
 use Rattle.facts.specs.Filled.{tab}
-use Rattle.facts.specs.FilledLaws.{get_d_tab, tab_ext}
+use Rattle.facts.specs.FilledLaws.{tab_ext}
 use Rattle.table.specs.Plan.{Plan}
-use Rattle.guards.specs.Moment.{Moment, moment_of}
+use Rattle.guards.specs.Moment.{moment_of}
 use Rattle.guards.specs.Lent.{state_of}
 use Rattle.guards.specs.Rows.{plan_from}
 use Rattle.guards.specs.Running.{is_open, better, best, running}

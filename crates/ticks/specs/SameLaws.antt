@@ -1,12 +1,11 @@
 -- What a tick does to the rows of a plan depends on its rows alone.
-use Prim.Native.Nat.{ℕ, zero, suc, pred, ◌+◌, ◌≤◌, ◌<◌}
-use Rattle.std.specs.Prelude.{◌≡◌, refl, cond, ◌&&◌, leb, ltb, eqb}
+use Prim.Native.Nat.{ℕ, zero, suc, pred, ◌<◌}
+use Rattle.std.specs.Prelude.{◌≡◌, refl, ◌&&◌, eqb}
 use Rattle.std.proofs.Common.{sym, ◌∙◌}
 use Rattle.std.proofs.Math.Path.{ap}
 use Rattle.std.proofs.Math.Bool.{Bool, not}
 use native.Mathlib.Omega.{arith}
 use Rattle.facts.specs.Tests.{all}
-use Rattle.facts.specs.Filled.{filled}
 use Rattle.facts.specs.FilledLaws.{filled_ext, get_d_filled, length_filled}
 use Rattle.facts.specs.TestsLaws.{all_ext}
 use Rattle.table.specs.Plan.{Plan}

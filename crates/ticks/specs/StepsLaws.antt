@@ -1,5 +1,5 @@
 -- The steps of a tick, one after the other.
-use Rattle.std.specs.Prelude.{ℕ, ◌+◌, ◌≤◌, ◌<◌, ◌≡◌, refl, Bool, true, false, cond, not, List, []}
+use Rattle.std.specs.Prelude.{ℕ, ◌+◌, ◌<◌, ◌≡◌, refl, Bool, true, false, cond, not, List, []}
 use Rattle.std.proofs.Common.{sym, ◌∙◌, ap, subst, arith}
 use Rattle.facts.specs.Filled.{tab, filled}
 use Rattle.facts.specs.FilledLaws.{get_d_tab, filled_ext}

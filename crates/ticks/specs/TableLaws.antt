@@ -1,5 +1,5 @@
 -- A tick of a table's rows is a tick of its plan.
-use Rattle.std.specs.Prelude.{ℕ, suc, pred, ◌+◌, ◌≤◌, ◌<◌, ◌≡◌, Bool, not, ◌&&◌, List, ltb, eqb, length}
+use Rattle.std.specs.Prelude.{ℕ, suc, ◌+◌, ◌<◌, ◌≡◌, Bool, not, ◌&&◌, List, ltb, eqb, length}
 use Rattle.std.proofs.Math.Path.{refl, sym, ap}
 use Rattle.std.proofs.Common.{◌∙◌, arith}
 use Rattle.std.proofs.Math.Bool.{true, false, cond}
@@ -13,7 +13,7 @@ use Rattle.table.specs.PlanLaws.{small_of}
 use Rattle.table.specs.Refusals.{last_clock}
 use Rattle.table.specs.declared.refusal.Refusal.TheVariants.{NotAPlan, TooShort, WrongDoneLength, WrongDoneByte, TimeUsedUp, ClockAtEnd, StateDoesNotFit}
 use Rattle.guards.specs.declared.state.State.{State}
-use Rattle.guards.specs.Moment.{Moment, moment_of, state_with}
+use Rattle.guards.specs.Moment.{moment_of, state_with}
 use Rattle.guards.specs.Running.{is_open, best, running, runs}
 use Rattle.guards.specs.Machine.{worked, before_release, due, ticked}
 use Rattle.guards.specs.Fits.{fits}

@@ -1,6 +1,6 @@
 -- What the parts of a tick find and make is what the plan says.
 use Prim.Native.Nat.{ℕ, zero, suc, pred, ◌+◌, ◌≤◌, ◌<◌}
-use Rattle.std.specs.Prelude.{◌≡◌, refl, Bool, true, cond, ◌&&◌, ◌||◌, ltb, eqb, length, get_or}
+use Rattle.std.specs.Prelude.{◌≡◌, refl, Bool, true, cond, length}
 use Rattle.std.proofs.Common.{sym, ◌∙◌}
 use Rattle.std.proofs.Math.Path.{ap}
 use mathlib.Core.List.{List, []}
@@ -8,13 +8,13 @@ use native.Mathlib.Omega.{arith}
 use borrow.Author.Tests.{lt-ltb, le-ltb, eq-eqb, ne_eqb}
 use Rattle.facts.specs.Tests.{lowest}
 use Rattle.facts.specs.Filled.{tab, filled}
-use Rattle.facts.specs.FilledLaws.{get_d_tab, filled_ext, length_tab}
+use Rattle.facts.specs.FilledLaws.{get_d_tab, length_tab}
 use Rattle.table.specs.Table.{at}
 use Rattle.table.specs.Plan.{Plan}
 use Rattle.guards.specs.declared.state.State.{State}
-use Rattle.guards.specs.Moment.{Moment, moment_of, state_with}
-use Rattle.guards.specs.Running.{is_open, best, running, runs}
-use Rattle.guards.specs.Machine.{worked, opened, before_release, due, let_go, ticked}
+use Rattle.guards.specs.Moment.{moment_of, state_with}
+use Rattle.guards.specs.Running.{is_open, running}
+use Rattle.guards.specs.Machine.{before_release, due, ticked}
 use Rattle.guards.specs.Rows.{Rows, plan_from}
 use Rattle.guards.specs.Calls.{is_done, taken, wrong_done, used_up}
 use Rattle.guards.specs.Lent.{state_of, outcome_of, refused_at, taken_at, stand, rows_fit_in}
@@ -27,10 +27,9 @@ use Rattle.table.specs.Refusals.{last_clock}
 use Rattle.guards.specs.declared.state.Called.{Called}
 use Rattle.table.specs.declared.refusal.Refusal.TheVariants.{WrongDoneByte, TimeUsedUp, ClockAtEnd}
 use Rattle.ticks.specs.Done.{wrong_here, up_here, Timely}
-use Rattle.ticks.specs.Steps.{Placed, Working, Stepping, chains, readied, stepped, ran, runs_in, ends_in}
+use Rattle.ticks.specs.Steps.{Stepping}
 use Rattle.ticks.specs.Ticking.{Listed, Ready, Going, told, done_tick, clock_tick}
 use Rattle.ticks.specs.FoundLaws.{best_ext, best_most}
-use Rattle.ticks.specs.SameLaws.{Same, Chained, with_same, opened_same, due_same, let_go_same}
 
 -- A state that fits the rows is ready for a tick.
 pub readying :
@@ -63,19 +62,19 @@ module _ (R : Rows) (processor priority time : List ℕ) (σ : State) {list : Li
   pub list_long : length list ≡ 17
   list_long = ap length e ∙ length_tab _ 17
 
-  running_here : (x : ℕ) → x ≤ 16 → at list x ≡ running plan (moment_of σ) x
+  pub running_here : (x : ℕ) → x ≤ 16 → at list x ≡ running plan (moment_of σ) x
   unfolding running
   running_here x l =
       ap (λ (k : List ℕ). at k x) e ∙ get_d_tab _ 17 x 0 (omega arith)
       ∙ best_ext _ plan (λ r. refl) (λ r. refl) (is_open (moment_of σ)) (is_open (moment_of σ)) x R.count (λ r b. refl)
 
-  wrong_lowest :
+  pub wrong_lowest :
       (n : ℕ) (done : List ℕ) → n ≤ 16
       → lowest n (λ i. wrong_here (at done i) (at list (suc i))) ≡ lowest n (wrong_done plan (moment_of σ) done)
   unfolding wrong_here wrong_done
   wrong_lowest n done l = lowest_ext n (λ i b. rw (running_here (suc i) (omega arith)))
 
-  up_lowest :
+  pub up_lowest :
       (n : ℕ) (done : List ℕ) → n ≤ 16
       → lowest n (λ i. up_here σ.used time (at done i) (at list (suc i))) ≡ lowest n (used_up plan (moment_of σ) done)
   unfolding up_here used_up moment_of
@@ -129,43 +128,6 @@ module _ (R : Rows) (processor priority time : List ℕ) (σ : State) {list : Li
       released_long = k.released_long;
     }
 
-    -- Steps 1 to 3 by the list are those of the plan,
-    worked_is :
-        (done : List ℕ)
-        → Same R.count (ran (runs_in processor list) (ends_in processor done) (moment_of σ)) (worked plan (moment_of σ) (is_done done))
-    unfolding ran worked runs
-    worked_is done = record {
-      clock = refl;
-      released = λ r l. refl;
-      completed = λ r l. rw (here r l);
-      used = λ r l. rw (here r l);
-      guard = λ r l. refl;
-    }
-      where
-        here : (r : ℕ) → r < R.count → at list (at processor r) ≡ running plan (moment_of σ) (at processor r)
-        here r l = running_here (at processor r) (omega (arith, ready.listed.processor_most r l, ready.listed.processors_most))
-
-    chained : Chained R.count (chains R processor) plan
-    chained = record { left = refl; right = refl; period = λ r l. refl; first = λ r l. refl; processor = λ r l. refl }
-
-    readied_is : (done : List ℕ) → Same R.count (readied R processor list done σ) (before_release plan (moment_of σ) (is_done done))
-    unfolding readied before_release
-    readied_is done = opened_same (worked_is done) chained
-
-    -- and so are all five.
-    ticked_made :
-        (done : List ℕ)
-        → state_with R.count (stepped R processor list done σ) σ
-        ≡ state_with R.count (ticked plan (moment_of σ) (is_done done)) σ
-    unfolding stepped ticked
-    ticked_made done = with_same (let_go_same (readied_is done) chained) σ
-
-    bytes_ticked :
-        (done released : List ℕ)
-        → filled (λ r. cond (due (chains R processor) (readied R processor list done σ) r) 1 0) R.count released
-        ≡ filled (λ r. cond (due plan (before_release plan (moment_of σ) (is_done done)) r) 1 0) R.count released
-    bytes_ticked done released = filled_ext _ _ R.count released (λ r l. rw (due_same (readied_is done) chained r l))
-
 -- The answers of a tick on lists, from 13 on.
 module _ (processors : ℕ) (P : Plan) (σ : State) (done out : List ℕ) where
   pub clock_end :
@@ -175,21 +137,21 @@ module _ (processors : ℕ) (P : Plan) (σ : State) (done out : List ℕ) where
   clock_end e l = ap (λ (o : Called). told out (leaves σ o)) e ∙ rw (eq-eqb _ _ l)
 
   module _ (n : σ.clock ≡ last_clock → ⊥) {w : ℕ} (f : w ≡ lowest processors (wrong_done P (moment_of σ) done)) where
-    done_wrong :
+    pub done_wrong :
         {o : Called} → o ≡ refused_at (WrongDoneByte (w + 1)) σ.clock → w < processors
         → told out (leaves σ o) ≡ clock_tick processors P σ done out
     unfolding clock_tick done_tick
     done_wrong e l = ap (λ (o : Called). told out (leaves σ o)) e ∙ rw (ne_eqb _ _ n, ← f, lt-ltb _ _ l)
 
     module _ (l : processors ≤ w) where
-      done_up :
+      pub done_up :
           {o : Called} {u : ℕ} → o ≡ refused_at (TimeUsedUp (u + 1)) σ.clock
           → u ≡ lowest processors (used_up P (moment_of σ) done) → u < processors
           → told out (leaves σ o) ≡ clock_tick processors P σ done out
       unfolding clock_tick done_tick
       done_up e g m = ap (λ (o : Called). told out (leaves σ o)) e ∙ rw (ne_eqb _ _ n, ← f, le-ltb _ _ l, ← g, lt-ltb _ _ m)
 
-      done_made :
+      pub done_made :
           {o : Called} {u : ℕ} {released completed used guard bytes : List ℕ} → o ≡ taken_at (σ.clock + 1) (σ.clock + 1)
           → u ≡ lowest processors (used_up P (moment_of σ) done) → processors ≤ u
           → state_of (σ.clock + 1) released completed used guard ≡ state_with P.rows (ticked P (moment_of σ) (is_done done)) σ
@@ -199,38 +161,3 @@ module _ (processors : ℕ) (P : Plan) (σ : State) (done out : List ℕ) where
       done_made {o} {u} {released} {completed} {used} {guard} {bytes} e g m state list =
           ap (λ (o : Called). told bytes (outcome_of o released completed used guard)) e
           ∙ rw (ne_eqb _ _ n, ← f, le-ltb _ _ l, ← g, le-ltb _ _ m) (λ i. record { outcome = taken (σ.clock + 1) (state i); released = list i })
-
--- The same of what is found by the list of running rows, and of what the steps by it make.
-module _
-    (R : Rows) (processors : ℕ) (processor priority time : List ℕ) (σ : State) {list : List ℕ}
-    (e : list ≡ tab (running (plan_from R.count [] [] processor priority []) (moment_of σ)) 17)
-    (ready : Ready R processors processor priority time σ) (done out : List ℕ) (n : σ.clock ≡ last_clock → ⊥) {w : ℕ}
-    (f : w ≡ lowest processors (λ i. wrong_here (at done i) (at list (suc i)))) where
-  abbrev whole : Plan
-  whole = plan_from R.count R.period R.first processor priority time
-
-  wrong_is : w ≡ lowest processors (wrong_done whole (moment_of σ) done)
-  wrong_is = f ∙ wrong_lowest R processor priority time σ e processors done ready.listed.processors_most
-
-  pub list_wrong :
-      {o : Called} → o ≡ refused_at (WrongDoneByte (w + 1)) σ.clock → w < processors
-      → told out (leaves σ o) ≡ clock_tick processors whole σ done out
-  list_wrong a m = done_wrong processors whole σ done out n wrong_is a m
-
-  module _ (l : processors ≤ w) {u : ℕ} (g : u ≡ lowest processors (λ i. up_here σ.used time (at done i) (at list (suc i)))) where
-    up_is : u ≡ lowest processors (used_up whole (moment_of σ) done)
-    up_is = g ∙ up_lowest R processor priority time σ e processors done ready.listed.processors_most
-
-    pub list_up :
-        {o : Called} → o ≡ refused_at (TimeUsedUp (u + 1)) σ.clock → u < processors
-        → told out (leaves σ o) ≡ clock_tick processors whole σ done out
-    list_up a m = done_up processors whole σ done out n wrong_is l a up_is m
-
-    pub list_made :
-        {o : Called} {released completed used guard bytes : List ℕ} → o ≡ taken_at (σ.clock + 1) (σ.clock + 1) → processors ≤ u
-        → state_of (σ.clock + 1) released completed used guard ≡ state_with R.count (stepped R processor list done σ) σ
-        → bytes ≡ filled (λ r. cond (due (chains R processor) (readied R processor list done σ) r) 1 0) R.count out
-        → told bytes (outcome_of o released completed used guard) ≡ clock_tick processors whole σ done out
-    list_made a m state bytes =
-        done_made processors whole σ done out n wrong_is l a up_is m (state ∙ ticked_made R processor priority time σ e ready done)
-        (bytes ∙ bytes_ticked R processor priority time σ e ready done out)

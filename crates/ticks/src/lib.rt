@@ -1,5 +1,7 @@
 // The call tick (document 01, "Guards").
 
+#![tactic(auto)]
+
 mod choice;
 mod done;
 mod release;

@@ -1,61 +1,61 @@
 // Words of the lines that are printed.
 
+use crate::output::{print_decimal, write_all};
 use crate::paper::ROWS;
 use guards::state::State;
-use libc::STDOUT_FILENO;
 use table::refusal::{Refusal, number_of, place_of};
 
 // Prints a text.
-pub(crate) fn say(text: &[u8]) {
-    io::write_all(STDOUT_FILENO, text);
+pub(crate) fn say(rt: &HostRuntime, text: &[u8]) {
+    write_all(rt, text);
 }
 
 // Prints a word and a number.
-pub(crate) fn say_number(word: &[u8], number: u64) {
-    say(word);
-    io::print_decimal(STDOUT_FILENO, number);
+pub(crate) fn say_number(rt: &HostRuntime, word: &[u8], number: u64) {
+    say(rt, word);
+    print_decimal(rt, number);
 }
 
 // Prints a refusal's number and place.
-pub(crate) fn say_refusal(refusal: Refusal) {
-    say_number(b"refused=", number_of(refusal));
-    say_number(b" at=", place_of(refusal));
+pub(crate) fn say_refusal(rt: &HostRuntime, refusal: Refusal) {
+    say_number(rt, b"refused=", number_of(refusal));
+    say_number(rt, b" at=", place_of(refusal));
 }
 
 // Prints a blank and a byte.
-fn say_byte(byte: u8) {
-    say_number(b" ", byte as u64);
+fn say_byte(rt: &HostRuntime, byte: u8) {
+    say_number(rt, b" ", byte as u64);
 }
 
 // Prints a done list.
-pub(crate) fn say_done(done: &[u8]) {
-    say(b"tick with done");
+pub(crate) fn say_done(rt: &HostRuntime, done: &[u8]) {
+    say(rt, b"tick with done");
     let mut i: usize = 0;
     while i < done.len() {
-        say_byte(done[i]);
+        say_byte(rt, done[i]);
         i += 1;
     }
 }
 
 // Prints which rows have completed an instance from one state to another.
-pub(crate) fn say_completed(before: State, after: State) {
+pub(crate) fn say_completed(rt: &HostRuntime, before: State, after: State) {
     let mut row: usize = 0;
     while row < ROWS {
         if before.completed[row] < after.completed[row] {
-            say_number(b", row ", row as u64 + 1);
-            say(b" completed");
+            say_number(rt, b", row ", row as u64 + 1);
+            say(rt, b" completed");
         }
         row += 1;
     }
 }
 
 // Prints which rows a release list names.
-pub(crate) fn say_released(released: &[u8]) {
+pub(crate) fn say_released(rt: &HostRuntime, released: &[u8]) {
     let mut row: usize = 0;
     while row < released.len() {
         if released[row] == 1 {
-            say_number(b", row ", row as u64 + 1);
-            say(b" released");
+            say_number(rt, b", row ", row as u64 + 1);
+            say(rt, b" released");
         }
         row += 1;
     }

@@ -1,4 +1,6 @@
 // Unsigned 64-bit little-endian words of eight bytes in lent lists of bytes: one word, and fields of words at equal steps.
+#![tactic(auto)]
+
 ghost use Rattle.std.specs.Prelude.{◌≡◌, ℕ, ◌+◌, ◌*◌, ◌≤◌, ◌<◌, length, get_or};
 ghost use Rattle.words.specs.Words.{word, with_word, field_within, gathered, with_field};
 
