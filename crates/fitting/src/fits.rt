@@ -16,6 +16,7 @@ const MOST_ROWS: usize = 128;
 
 // Whether a row's instances and used ticks fit: completed ≤ released ≤ clock + 1, used < time, and used is 0 where
 // nothing is open.
+#[tactic(auto, unfolding(guards::specs::Rows::counts_fit))]
 fn counts_fit(clock: u64, released: u64, completed: u64, used: u64, time: u64) -> bool
     requires { clock ≤ last_clock }
     ensures { result ≡ counts_fit clock released completed used time }
@@ -36,6 +37,7 @@ fn counts_fit(clock: u64, released: u64, completed: u64, used: u64, time: u64) -
 }
 
 // Whether a row's guard and releases fit its place in its chain, given what the row before it has completed.
+#[tactic(auto, unfolding(guards::specs::Rows::chain_fits))]
 fn chain_fits(first: bool, clock: u64, period: u64, released: u64, guard: u64, before: u64) -> bool
     requires { clock ≤ last_clock }
     ensures { result ≡ chain_fits first clock period released guard before }
@@ -62,6 +64,7 @@ fn chain_fits(first: bool, clock: u64, period: u64, released: u64, guard: u64, b
 }
 
 // Whether each of the four lists of a state has an entry for each row.
+#[tactic(auto, unfolding(guards::specs::Lent::holds))]
 pub fn lists_hold(
     count: usize,
     released: &[u64],
@@ -84,6 +87,7 @@ pub fn lists_hold(
 }
 
 // Whether each of the lists of a plan's rows has an entry for each of them.
+#[tactic(auto, unfolding(guards::specs::Lent::stand))]
 fn rows_stand(count: usize, periods: &[u64], firsts: &[bool], time: &[u64]) -> bool
     ensures { result ≡ stand count periods.now firsts.now time.now }
 {
@@ -146,6 +150,7 @@ fn each_fits(
 }
 
 // Whether the rows stand in their lists and the state in the four others fits them.
+#[tactic(auto, using(facts::specs::TestsLaws::and_false), unfolding(guards::specs::Lent::rows_fit_in, guards::specs::Rows::rows_fit, guards::specs::Fits::fits, guards::specs::Moment::moment_of))]
 pub fn rows_fit(
     count: usize,
     periods: &[u64],

@@ -14,6 +14,7 @@ use table::refusal::Refusal;
 const MOST_ROWS: u64 = 128;
 
 // Whether three lists have so many entries at least.
+#[tactic(auto, unfolding(table::specs::Table::long_enough))]
 pub fn long_enough(n: usize, a: &[u64], b: &[u64], c: &[u64]) -> bool
     ensures { result ≡ long_enough n a.now b.now c.now }
 {
@@ -27,6 +28,7 @@ pub fn long_enough(n: usize, a: &[u64], b: &[u64], c: &[u64]) -> bool
 }
 
 // Whether three values are in the ranges of a key and of the two keys after it.
+#[tactic(auto, unfolding(table::specs::Table::entry_right))]
 fn entry_right(key: usize, own: u64, a: u64, b: u64, c: u64) -> bool
     requires { key ≤ 7 }
     ensures { result ≡ entry_right key own a b c }

@@ -60,6 +60,7 @@ fn range_of(key: usize, own: u64) -> Range
 }
 
 // Whether the value is in the range of its key.
+#[tactic(auto, unfolding(crate::specs::Ranges::in_range))]
 pub fn in_range(key: usize, own: u64, value: u64) -> bool
     ensures { result ≡ in_range key own value }
 {

@@ -1,8 +1,8 @@
 -- `planned::plan::entries_right` meets its contract: the entries passed are right.
-use Rattle.std.proofs.Common.{◌-◌, true, ◌≡◌, sym, ◌∙◌, arith}
+use Rattle.std.proofs.Common.{◌≡◌, sym, ◌∙◌, arith}
 use Rattle.table.specs.TableLaws.{long_of}
 use Rattle.facts.specs.TestsLaws.{all_none, all_more, all_fails}
-use Rattle.table.specs.Table.{at, long_enough, entries_right, entry_right}
+use Rattle.table.specs.Table.{at, entries_right, entry_right}
 use Rattle.planned.proofs.plan.entries_right.Goals as goal
 
 pub returns-then-not-long_enough : goal.returns-then-not-long_enough

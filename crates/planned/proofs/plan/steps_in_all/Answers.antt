@@ -1,5 +1,5 @@
 -- `planned::plan::steps_in_all` meets its contract: the sum so far.
-use Rattle.std.proofs.Common.{ℕ, ◌+◌, ◌-◌, ◌≡◌, sym, ◌∙◌, ap, arith}
+use Rattle.std.proofs.Common.{ℕ, ◌+◌, ◌≡◌, sym, ◌∙◌, ap, arith}
 use Rattle.table.specs.Table.{at}
 use Rattle.facts.specs.SumsLaws.{sum_none, sum_more}
 use Rattle.planned.proofs.plan.steps_in_all.Goals as goal

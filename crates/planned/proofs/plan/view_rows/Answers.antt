@@ -1,5 +1,5 @@
 -- `planned::plan::view_rows` meets its contract: each row's period and whether it is first, task by task.
-use Rattle.std.proofs.Common.{length-set, ⊎_elim, ◌-◌, ◌+◌, ◌≡◌, sym, refl, ◌∙◌, le-leb, arith}
+use Rattle.std.proofs.Common.{length-set, ◌+◌, ◌≡◌, sym, refl, ◌∙◌, le-leb, arith}
 use borrow.Author.Tests.{lt-leb}
 use Rattle.facts.specs.FilledLaws.{filled_none, filled_more}
 use Rattle.planned.specs.View.{viewed}
