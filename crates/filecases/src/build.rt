@@ -1,6 +1,6 @@
 // The files of the cases.
 
-ghost use Rattle.std.specs.Prelude.{◌≡◌, ◌≤◌, length, take};
+ghost use Rattle.io.specs.Counts.{IsPrefixLen};
 
 use text::{append, append_line};
 
@@ -21,8 +21,7 @@ fn append_front(out: &mut [u8], text: &[u8], lines: usize) -> usize {
 
 // Where so many lines end.
 fn behind(text: &[u8], lines: usize) -> usize
-    ensures in_bounds { result ≤ length text.now }
-    ensures len { result ≡ length (take result text.now) }
+    ensures { IsPrefixLen result text.now }
 {
     let mut left = lines;
     let mut i = 0;
@@ -64,8 +63,7 @@ fn full_task(out: &mut [u8], at: usize, task: u64) -> usize {
 
 // The number, or the list's length if that is less.
 pub(crate) fn within(n: usize, list: &[u8]) -> usize
-    ensures in_bounds { result ≤ length list.now }
-    ensures len { result ≡ length (take result list.now) }
+    ensures { IsPrefixLen result list.now }
 {
     if n < list.len() {
         return n;

@@ -1,5 +1,5 @@
 -- What the plan program prints of a file (document 01, "One plan and its report").
-use Rattle.std.specs.Prelude.{ℕ, suc, ◌≤◌, ◌<◌, ◌≡◌, List, ◌++◌, length, take}
+use Rattle.std.specs.Prelude.{ℕ, suc, ◌≤◌, ◌<◌, ◌≡◌, List, ◌++◌, length}
 use Rattle.table.specs.declared.refusal.Refusal.{Refusal}
 use Rattle.table.specs.declared.refusal.Refusal.TheVariants.{FileTooLong, NoBusyLength}
 use Rattle.table.specs.Refusals.{number_of, place_of}
@@ -23,7 +23,3 @@ pub data Printed (file text : List ℕ) : Type 0 where
       → Printed file text
   given :
       {T : Table} {N : Numbers} → held file ≡ table T → Analysis T N → text ≡ report_text T N → Printed file text
-
--- So many bytes are at the front of the list.
-abbrev pub IsPrefixLen : ℕ → List ℕ → Type 0
-IsPrefixLen n xs = (n ≤ length xs) × (n ≡ length (take n xs))

@@ -2,6 +2,7 @@
 use Rattle.std.specs.Prelude.{ℕ, suc, ◌≤◌, ◌≡◌, true, List, length, take, drop}
 use Rattle.std.proofs.Common.{sym, ◌∙◌, ap, subst, arith, le-ltb, length-append, length-take-le}
 use Rattle.std.proofs.Math.Seq.{take-append_seam}
+use Rattle.io.specs.Counts.{IsPrefixLen}
 use Rattle.facts.specs.Filled.{laid}
 use Rattle.facts.specs.TestsLaws.{clash}
 use Rattle.table.specs.declared.refusal.Refusal.{Refusal}
@@ -23,7 +24,7 @@ use Rattle.report.specs.FiguresLaws.{figures_small, report_one}
 use Rattle.report.specs.FileReportLaws.{held_refusal, held_table, held_either}
 use Rattle.report.specs.Reporting as reporting
 use Rattle.report.specs.Reporting.{ReportOutcome, delivered, FileReported}
-use Rattle.plan.specs.Printed.{IsPrefixLen, refusal_text, Printed, too_long, unread, no_busy_length, given}
+use Rattle.plan.specs.Printed.{refusal_text, Printed, too_long, unread, no_busy_length, given}
 
 -- The same of equal tables.
 stuck_as : {S T : Table} {row : ℕ} → S ≡ T → Stuck S row → Stuck T row

@@ -2,37 +2,39 @@
 #![tactic(auto)]
 
 ghost use Rattle.std.specs.Prelude.{◌≡◌, length, take};
+ghost use Rattle.std.specs.Io.{ReadsAtMost};
 ghost use Rattle.text.specs.Text.{Written, appended};
-ghost use Rattle.plan.specs.Printed.{IsPrefixLen, Printed, refusal_text};
+ghost use Rattle.io.specs.Counts.{IsPrefixLen};
+ghost use Rattle.plan.specs.Printed.{Printed, refusal_text};
 
 use report::{Reporting, report_file};
-use std::io::Read;
+use std::io::{self, Read};
 use table::refusal::{Refusal, number_of, place_of};
 use text::append_line;
 
-fn main(rt: HostRuntime) {
+fn main(rt: HostRuntime) -> io::Result<()> {
     // One byte more than a file may have, so that a longer file is seen to be one; and room for any report.
     let mut file = [0u8; 8193];
     let mut text = [0u8; 10240];
-    let size = read_full(&rt, &mut file);
+    let size = read_full(&rt, &mut file)?;
     let end = print(&file[..size], &mut text);
-    let _ = rt.write_all(&text[..end]);
+    rt.write_all(&text[..end])
 }
 
-// Reads standard input until the buffer is full, the input ends or a read fails, and answers how many bytes stand at the front.
-fn read_full(rt: &HostRuntime, buf: &mut [u8]) -> usize
-    ensures { IsPrefixLen result buf.new }
+// Reads standard input until the buffer is full or the input ends, and answers how many bytes stand at the front.
+fn read_full(rt: &HostRuntime, buf: &mut [u8]) -> io::Result<usize>
+    ensures { ReadsAtMost result buf.new }
 {
     let mut input = rt.stdin();
     let mut done = 0;
     while done < buf.len() {
-        match input.read(&mut buf[done..]) {
-            Ok(0) => break,
-            Ok(n) => done += n,
-            Err(_) => break,
+        let more = input.read(&mut buf[done..])?;
+        if more == 0 {
+            break;
         }
+        done += more;
     }
-    done
+    Ok(done)
 }
 
 // The text to print of a file, at the front of the output.
