@@ -108,6 +108,7 @@ fn read_file(file: &[u8]) -> Sheet
 
 // Reads a plan file for record lists of these lengths: 7 for fewer than 128 row records, then for fewer than 32 chain
 // records, then the reader's refusals.
+#[tactic(auto, unfolding(crate::specs::Sheet::sheet_of))]
 pub fn read(file: &[u8], chains: usize, rows: usize) -> Sheet
     ensures { result ≡ sheet_of file.now chains rows }
 {

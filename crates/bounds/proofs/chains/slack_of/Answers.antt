@@ -6,7 +6,7 @@ use Rattle.bounds.proofs.chains.slack_of.Goals as goal
 pub overflow_sub-result : goal.overflow_sub-result
 overflow_sub-result c =
     rw (to_z_pos w64 c.args.deadline (omega arith), to_z_pos w64 c.args.bound (omega arith))
-    (record { sfits = mag_less c.args.deadline c.args.bound (omega arith) (omega arith) })
+    (record { sfits = grind (arith, mag_less) })
 
 pub returns : goal.returns
 returns c =
