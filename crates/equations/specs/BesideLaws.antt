@@ -1,7 +1,7 @@
 -- Laws of the rows beside a row: a plan's rows have proper equations, tied rows share their work, and a plan that asks
 -- for less has smaller numbers.
-use Rattle.std.specs.Prelude.{◌≡◌, refl, Bool, true, false, not, ◌&&◌, ℕ, suc, ◌+◌, ◌*◌, ◌≤◌, ◌<◌, T, leb, eqb}
-use Rattle.std.proofs.Common.{ap, sym, ◌∙◌, arith, eq-eqb, ne_eqb, le-leb}
+use Rattle.std.specs.Prelude.{◌≡◌, refl, true, false, not, ℕ, ◌*◌, ◌≤◌, ◌<◌, eqb}
+use Rattle.std.proofs.Common.{sym, ◌∙◌, arith, eq-eqb, ne_eqb, le-leb}
 use Rattle.std.proofs.Math.Path.{fun_ext}
 use Rattle.std.proofs.Math.Nat.{mul-le-mul_right, mul-le-mul}
 use Rattle.std.proofs.lemmas.Bool.{lt-leb}
@@ -13,7 +13,7 @@ use Rattle.facts.specs.Least.{Least}
 use Rattle.facts.specs.LeastLaws.{Answer}
 use Rattle.table.specs.Plan.{Plan}
 use Rattle.table.specs.PlanLaws.{Right}
-use Rattle.equations.specs.Row.{Row, work, RowBounds}
+use Rattle.equations.specs.Row.{work, RowBounds}
 use Rattle.equations.specs.RowLaws.{Proper, Less, busy_less, row_bounds_less}
 use Rattle.equations.specs.Beside.{level, beside, demand, row_of}
 

@@ -7,9 +7,9 @@ use Rattle.std.proofs.Math.Nat.{mul-le-mul_right, mul-le-mul_left, mul-le-mul}
 use native.Mathlib.Omega.{arith, both_ways, by_contra}
 use Rattle.std.proofs.Math.Decide.{dec_le, dec_lt}
 use Rattle.facts.specs.Rounding.{ceil}
-use Rattle.facts.specs.RoundingLaws.{ceil_le, le_ceil, ceil_mono, ceil_pos, ceil_count}
+use Rattle.facts.specs.RoundingLaws.{ceil_le, ceil_mono, ceil_pos, ceil_count}
 use Rattle.facts.specs.Least.{Least}
-use Rattle.facts.specs.LeastLaws.{Rising, Below, Answer, answer, below_stop, least_unique, least_mono, least_below}
+use Rattle.facts.specs.LeastLaws.{Rising, Answer, answer, least_unique, least_mono, least_below}
 use Rattle.equations.specs.Row.{Row, work, work_to, Greatest, RowBounds}
 
 -- Period and cost are above 0, and the rows beside never ask for less in more time.

@@ -1,12 +1,12 @@
 -- All that the guards' theorem asks of a row's bound.
-use Rattle.std.specs.Prelude.{◌≡◌, ℕ, suc, ◌+◌, ◌*◌, ◌-◌, ◌≤◌, ◌<◌}
+use Rattle.std.specs.Prelude.{ℕ, suc, ◌+◌, ◌*◌, ◌≤◌, ◌<◌}
 use Rattle.std.proofs.Common.{arith}
 use Rattle.facts.specs.Rounding.{ceil}
 use Rattle.facts.specs.RoundingLaws.{ceil_count}
 use Rattle.facts.specs.LeastLaws.{Answer}
 use Rattle.table.specs.Plan.{Plan}
 use Rattle.table.specs.PlanLaws.{Right}
-use Rattle.equations.specs.Row.{Row, work, work_to, RowBounds}
+use Rattle.equations.specs.Row.{work, work_to, RowBounds}
 use Rattle.equations.specs.RowLaws.{instance_answer}
 use Rattle.equations.specs.Beside.{demand, row_of}
 use Rattle.equations.specs.BesideLaws.{proper_of}

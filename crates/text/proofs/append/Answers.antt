@@ -1,5 +1,5 @@
 -- `text::append` meets its contract: at the loop's head, appending the bytes from the i-th on to the list as it is gives the whole outcome.
-use Rattle.std.proofs.Common.{ℕ, ◌-◌, refl, sym, ◌∙◌, ap, List, drop, length-set, drop_of_length-le, arith}
+use Rattle.std.proofs.Common.{ℕ, refl, sym, ◌∙◌, ap, List, drop, length-set, drop_of_length-le, arith}
 use Rattle.text.specs.Text.{appended}
 use Rattle.text.specs.TextLaws.{appended_none, appended_full, appended_step}
 use Rattle.text.proofs.append.Goals as goal

@@ -1,5 +1,5 @@
 -- The loop fills the list of numbers from the front with the words of the field.
-use Rattle.std.proofs.Common.{◌≤◌, ◌+◌, ◌*◌, ◌-◌, ◌≡◌, refl, sym, ◌∙◌, length, length-set, arith}
+use Rattle.std.proofs.Common.{◌≤◌, ◌+◌, ◌*◌, ◌≡◌, refl, sym, ◌∙◌, length, length-set, arith}
 use Rattle.facts.specs.FilledLaws.{filled_none, filled_more}
 use Rattle.words.specs.Words.{word}
 use Rattle.words.specs.FieldsLaws.{field_at, fits_yes, fits_short, fits_outside, gathered_yes, gathered_no}

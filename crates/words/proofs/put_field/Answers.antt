@@ -1,5 +1,5 @@
 -- The loop sets one word of the field after the other.
-use Rattle.std.proofs.Common.{◌≤◌, ◌+◌, ◌*◌, ◌-◌, ◌≡◌, refl, sym, ◌∙◌, length, arith}
+use Rattle.std.proofs.Common.{◌≤◌, ◌+◌, ◌*◌, ◌≡◌, refl, sym, ◌∙◌, length, arith}
 use Rattle.words.specs.FieldsLaws.{field_at, fits_yes, fits_short, fits_outside, with_field_yes, with_field_no, with_words_none, with_words_more}
 use Rattle.words.proofs.put_field.Goals.{In-loop-i}
 use Rattle.words.proofs.put_field.Goals as goal

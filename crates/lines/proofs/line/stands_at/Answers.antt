@@ -1,5 +1,5 @@
 -- `lines::line::stands_at` meets its contract: each byte passed is the one asked for.
-use Rattle.std.proofs.Common.{◌+◌, ◌-◌, ◌≡◌, sym, ◌∙◌, true, eq-eqb, ne_eqb, eqb, length, get_or, arith}
+use Rattle.std.proofs.Common.{◌+◌, ◌≡◌, sym, ◌∙◌, eq-eqb, ne_eqb, eqb, length, get_or, arith}
 use Rattle.facts.specs.TestsLaws.{all_none, all_more, all_fails}
 use Rattle.lines.specs.Line.{stands}
 use Rattle.lines.proofs.line.stands_at.Goals as goal
