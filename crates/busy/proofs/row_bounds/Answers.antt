@@ -1,4 +1,4 @@
-use Rattle.std.proofs.Common.{ap, not, refl, sym, ◌∙◌}
+use Rattle.std.proofs.Common.{ap, arith, not, refl, sym, ◌∙◌}
 use Rattle.table.specs.TableLaws.{long_of}
 use Rattle.busy.specs.Numbering.{row_lists_of}
 use Rattle.busy.specs.NumberingLaws.{refusing_no_plan, seen_fits, seen_usable, answer_short, answer_stuck, answer_found}
@@ -58,7 +58,7 @@ shape_of-bounds-then-done-count c = refl
 pub returns-then-done-count : goal.returns-then-done-count
 returns-then-done-count c =
     let a = c.args in
-    (answer_stuck a.processors a.tasks a.period.now a.deadline.now a.steps.now a.processor.now a.priority.now a.time.now c.zeros-periods.ensures.size c.rows_of-rows.ensures c.if-rows-eq0.false (row_lists_of a.busy.now a.instances.now a.bounds.now) c.long_enough.ensures (ap not c.if-not-long_enough.false) c.row_numbers-done.ensures c.if-done-count.true, refl)
+    (answer_stuck a.processors a.tasks a.period.now a.deadline.now a.steps.now a.processor.now a.priority.now a.time.now c.zeros-periods.ensures.size c.rows_of-rows.ensures c.if-rows-eq0.false (row_lists_of a.busy.now a.instances.now a.bounds.now) c.long_enough.ensures (ap not c.if-not-long_enough.false) c.row_numbers-done.ensures (omega (arith, c.row_numbers-done.ensures.most)), refl)
 
 pub slice_bounds-fill_rows-end : goal.slice_bounds-fill_rows-end
 slice_bounds-fill_rows-end c = sym (c.row_numbers-done.auto.busy ∙ c.zeros-spans.ensures.size)

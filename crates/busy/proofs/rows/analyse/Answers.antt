@@ -32,13 +32,13 @@ pub advance-work-requires : goal.advance-work-requires
 advance-work-requires c =
     let ok = c.level_of-level.ensures.sound.ranged in
     let l = c.loop-work in
-    record { ranged = (ok, c.if-work-gt-LIMIT.false, as_long l.invariant.0 ok.few, as_long l.invariant.1 ok.few); by_index = (climb_small ok l.invariant.3 l.invariant.2).1 }
+    record { ranged = (ok, (omega arith), as_long l.invariant.0 ok.few, as_long l.invariant.1 ok.few); by_index = (climb_small ok l.invariant.3 l.invariant.2).1 }
 
 pub overflow_add-work : goal.overflow_add-work
 overflow_add-work c =
     let sound = c.level_of-level.ensures.sound in
     let next = span_next sound.ranged sound.any c.loop-work.invariant.3 c.advance-work.ensures in
-    omega (arith, (climb_small sound.ranged next c.if-work-gt-LIMIT.false).0)
+    omega (arith, (climb_small sound.ranged next (omega arith)).0)
 
 pub loop-work-smaller : goal.loop-work-smaller
 loop-work-smaller c =
@@ -51,7 +51,7 @@ loop-work-preserved c =
     let sound = c.level_of-level.ensures.sound in
     let l = c.loop-work in
     let moved = c.advance-work in
-    (moved.auto.due ∙ l.invariant.0, moved.auto.later ∙ l.invariant.1, c.if-work-gt-LIMIT.false, span_next sound.ranged sound.any l.invariant.3 moved.ensures)
+    (moved.auto.due ∙ l.invariant.0, moved.auto.later ∙ l.invariant.1, (omega arith), span_next sound.ranged sound.any l.invariant.3 moved.ensures)
 
 pub end_instances-requires : goal.end_instances-requires
 end_instances-requires c =

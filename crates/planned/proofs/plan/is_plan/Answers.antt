@@ -1,5 +1,5 @@
 -- `planned::plan::is_plan` meets its contract: counts, tasks, rows in all, rows.
-use Rattle.std.proofs.Common.{sym, ◌∙◌, le-leb}
+use Rattle.std.proofs.Common.{sym, ◌∙◌, le-leb, arith}
 use borrow.Author.Tests.{lt-leb}
 use Rattle.table.specs.RangesLaws.{within_of}
 use Rattle.table.specs.Ranges.{range_of, ranges}
@@ -30,10 +30,10 @@ pub returns-then-rows-gt-MOST_ROWS : goal.returns-then-rows-gt-MOST_ROWS
 unfolding is_plan rows first_row
 returns-then-rows-gt-MOST_ROWS c =
     rw (sym c.in_range.ensures ∙ c.if-not-in_range.false, sym c.in_range-2.ensures ∙ c.if-not-in_range-2.false, sym c.entries_right.ensures ∙ c.if-not-entries_right.false)
-    (rw (← c.steps_in_all-rows.ensures, lt-leb _ _ c.if-rows-gt-MOST_ROWS.true))
+    (rw (← c.steps_in_all-rows.ensures, lt-leb c.steps_in_all-rows.result 128 (omega arith)))
 
 pub returns : goal.returns
 unfolding is_plan rows first_row
 returns c =
     rw (sym c.in_range.ensures ∙ c.if-not-in_range.false, sym c.in_range-2.ensures ∙ c.if-not-in_range-2.false, sym c.entries_right.ensures ∙ c.if-not-entries_right.false)
-    (rw (← c.steps_in_all-rows.ensures, le-leb _ _ c.if-rows-gt-MOST_ROWS.false) c.entries_right-2.ensures)
+    (rw (← c.steps_in_all-rows.ensures, le-leb c.steps_in_all-rows.result 128 (omega arith)) c.entries_right-2.ensures)
