@@ -1,75 +1,44 @@
 // The call fresh start.
 
-ghost use Rattle.std.specs.Prelude.{◌≡◌, ◌≤◌, length};
-ghost use Rattle.facts.specs.Filled.{filled};
-ghost use Rattle.table.specs.Table.{table_of};
-ghost use Rattle.guards.specs.Lent.{on_lists, outcome_of, state_of};
+ghost use Rattle.std.specs.Prelude.{◌≡◌, OnErr};
+ghost use Rattle.guards.specs.Outcome.{Outcome};
 ghost use Rattle.guards.specs.Calls.{fresh_start};
+ghost use Rattle.guards.specs.Lent.{Long, on_lists};
+ghost use Rattle.guards.specs.Machine.{start};
+ghost use Rattle.guards.specs.Moment.{state_with};
 
-use fitting::fits::lists_hold;
-use guards::rows::rows_in;
-use guards::state::{Called, refused, taken};
+use guards::run::RunState;
+use planned::rows::count_rows;
 use table::refusal::Refusal;
+use table::view::TableView;
 
-// Sets the first rows of the four lists to 0.
-fn clear(
-    count: usize,
-    released: &mut [u64],
-    completed: &mut [u64],
-    used: &mut [u64],
-    guard: &mut [u64],
-)
-    requires { (count ≤ length released.old) × (count ≤ length completed.old) × (count ≤ length used.old) × (count ≤ length guard.old) }
-    ensures { (released.new ≡ filled (λ r. 0) count released.old) × (completed.new ≡ filled (λ r. 0) count completed.old) × (used.new ≡ filled (λ r. 0) count used.old) × (guard.new ≡ filled (λ r. 0) count guard.old) }
+// Sets the clock and so many rows to 0.
+#[tactic(auto, using(crate::proofs::RowLemmas::cleared_none, crate::proofs::RowLemmas::cleared_more, crate::proofs::RowLemmas::cleared_long))]
+fn clear<S: RunState>(state: &mut S, count: usize)
+    requires { Long count (S.state state.old) }
+    ensures same_place { S.names state.new ≡ S.names state.old }
+    ensures state { S.state state.new ≡ state_with count start (S.state state.old) }
 {
-    let mut row: usize = 0;
-    while row < count {
-        released[row] = 0;
-        completed[row] = 0;
-        used[row] = 0;
-        guard[row] = 0;
-        row += 1;
+    state.set_clock(0);
+    for row in 0..count {
+        state.set_released(row, 0);
+        state.set_completed(row, 0);
+        state.set_used(row, 0);
+        state.set_guard(row, 0);
     }
 }
 
-// A fresh start of the state in four lists.
-pub fn fresh_in<'a>(
-    processors: u64,
-    tasks: u64,
-    period: &'a [u64],
-    deadline: &'a [u64],
-    steps: &'a [u64],
-    processor: &'a [u64],
-    priority: &'a [u64],
-    time: &'a [u64],
-    clock: u64,
-    released: &mut [u64],
-    completed: &mut [u64],
-    used: &mut [u64],
-    guard: &mut [u64],
-) -> Called
-    ensures { outcome_of result released.new completed.new used.new guard.new ≡ on_lists (table_of processors tasks period.now deadline.now steps.now processor.now priority.now time.now) (state_of clock released.old completed.old used.old guard.old) (fresh_start (table_of processors tasks period.now deadline.now steps.now processor.now priority.now time.now) (state_of clock released.old completed.old used.old guard.old)) }
+// A run begins: 5, 14; the clock and the plan's rows are 0.
+pub fn fresh_start<T: TableView, S: RunState>(table: &T, state: &mut S) -> Result<u64, Refusal>
+    ensures same_place { S.names state.new ≡ S.names state.old }
+    ensures kept { OnErr result (state.new ≡ state.old) }
+    ensures outcome { ◌≡◌ {A = Outcome} (record { answer = result; state = S.state state.new }) (on_lists (T.table table.now) (S.state state.old) (fresh_start (T.table table.now) (S.state state.old))) }
 {
-    let mut periods = [0u64; 128];
-    let mut firsts = [false; 128];
-    let count = rows_in(
-        processors,
-        tasks,
-        period,
-        deadline,
-        steps,
-        processor,
-        priority,
-        time,
-        &mut periods,
-        &mut firsts,
-    );
-    if count == 0 {
-        return refused(Refusal::NotAPlan, clock);
+    let count = count_rows(table)? as usize;
+    if !state.rows_held(count) {
+        return Err(Refusal::StateDoesNotFit);
     }
-    if !lists_hold(count, released, completed, used, guard) {
-        return refused(Refusal::StateDoesNotFit, clock);
-    }
-    clear(count, released, completed, used, guard);
-    taken(0, 0)
+    clear(state, count);
+    // The answer of a fresh start is 0: `fresh_start` (guards, specs/Calls.antt), and the C host sees it.
+    Ok(0)
 }

@@ -1,6 +1,7 @@
-// The calls fresh start and arrive, on a run state by value or in lent lists.
+// The calls fresh start and arrive, of whatever holds the table and the state.
 
 #![tactic(auto)]
 
+mod admit;
 pub mod arrive;
 pub mod fresh;

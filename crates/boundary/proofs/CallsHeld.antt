@@ -1,5 +1,5 @@
 -- Each call on byte lists leaves a list that holds the very state which the call on the held state leaves.
-use Rattle.std.specs.Prelude.{ℕ, min, ◌≤◌, ◌≡◌, Bool, true, false, length}
+use Rattle.std.specs.Prelude.{ℕ, min, ◌≤◌, ◌≡◌, Bool, true, false, length, Err, Ok, Result}
 use Rattle.std.proofs.Math.Path.{refl, ap, subst}
 use Rattle.std.proofs.Common.{sym, ◌∙◌, arith}
 use Rattle.std.proofs.Math.Bool.{cond}
@@ -29,9 +29,7 @@ use Rattle.table.specs.declared.refusal.Refusal.TheVariants.{
   StateDoesNotFit,
 }
 use Rattle.guards.specs.declared.state.State.{State}
-use Rattle.guards.specs.declared.state.Answer.{Answer}
-use Rattle.guards.specs.declared.state.Answer.TheVariants.{Taken, Refused}
-use Rattle.guards.specs.declared.state.Outcome.{Outcome}
+use Rattle.guards.specs.Outcome.{Outcome}
 use Rattle.guards.specs.Moment.{Moment, moment_of, state_with}
 use Rattle.guards.specs.Machine.{start}
 use Rattle.guards.specs.Fits.{fits}
@@ -95,15 +93,15 @@ refusal_number ClockAtEnd = refl
 refusal_number StateDoesNotFit = refl
 
 -- so the number 0 says that a call was taken.
-pub number_taken : (answer : Answer) → eqb (answered_as answer).number 0 ≡ is_taken answer
+pub number_taken : (answer : Result ℕ Refusal) → eqb (answered_as answer).number 0 ≡ is_taken answer
 unfolding answered_as refused_as is_taken
-number_taken (Taken value) = refl
-number_taken (Refused refusal) = refusal_number refusal
+number_taken (Ok value) = refl
+number_taken (Err refusal) = refusal_number refusal
 
 -- What a call leaves: the state as it was, or its clock and first n rows made anew.
 data Left (n : ℕ) (σ : State) : Outcome → Type 0 where
-  refused : (refusal : Refusal) → Left n σ (record { answer = Refused refusal; state = σ })
-  taken : (value : ℕ) (m : Moment) → Left n σ (record { answer = Taken value; state = state_with n m σ })
+  refused : (refusal : Refusal) → Left n σ (record { answer = Err refusal; state = σ })
+  taken : (value : ℕ) (m : Moment) → Left n σ (record { answer = Ok value; state = state_with n m σ })
 
 -- A state list of the layout's length that holds the state σ, which fits the plan.
 pub record Holds (table state : List ℕ) (σ : State) : Type 0 where

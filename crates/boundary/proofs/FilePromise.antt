@@ -1,13 +1,12 @@
 -- From a plan's file to the runs on byte lists: a file that holds a plan is read into a table list, and runs with that list
 -- keep the bounds of every plan that is no easier.
-use Rattle.std.specs.Prelude.{ℕ, pred, ◌≡◌, List, length}
+use Rattle.std.specs.Prelude.{ℕ, pred, ◌≡◌, List, length, Ok}
 use Rattle.std.proofs.Math.Path.{sym, ap}
 use Rattle.std.proofs.Common.{◌∙◌, subst, arith}
 use Rattle.std.proofs.lemmas.List.{length-replicate}
 use Rattle.table.specs.Table.{Table, at, rows}
 use Rattle.table.specs.Plan.{cost, in_force}
 use Rattle.planfile.specs.declared.read.Counts.{Counts}
-use Rattle.planfile.specs.declared.read.Reading.TheVariants.{Read}
 use Rattle.table.specs.Keys.{no_key}
 use Rattle.planfile.specs.DraftLaws.{draft_of}
 use Rattle.planfile.specs.FrontLaws.{PartOf}
@@ -18,7 +17,6 @@ use Rattle.planfile.specs.RoundTrip.{held_shape, held_most}
 use Rattle.planfile.specs.LongerLaws.{laid_part}
 use Rattle.planfile.specs.TrimmedLaws.{Full, full_of}
 use Rattle.planfile.specs.ReadWriteLaws.{Roomy, read_held}
-use Rattle.bounds.specs.declared.Bounded.TheVariants.{Verdict}
 use Rattle.bounds.specs.Bounds as bounds
 use Rattle.bounds.specs.Bounds.{Bounding}
 use Rattle.bounds.specs.NoHarder.{NoHarder}
@@ -58,11 +56,11 @@ module _ (file list : List ℕ) (size : length list ≡ table_bytes) (T : Table)
   }
 
   -- The file is read,
-  reading : read file room_for ≡ record { answer = Read counts; lists = laid_over T room_for }
+  reading : read file room_for ≡ record { answer = Ok counts; lists = laid_over T room_for }
   unfolding read_of counts
   reading = read_held file room_for roomy (held_most file T holds) ∙ ap (λ (x : Held). read_of x room_for) holds
 
-  answer_is : (read file room_for).answer ≡ Read counts
+  answer_is : (read file room_for).answer ≡ Ok counts
   answer_is = ap (λ (o : ReadOutcome). o.answer) reading
 
   -- so the table list holds its plan.
@@ -85,7 +83,7 @@ module _ (file list : List ℕ) (size : length list ≡ table_bytes) (T : Table)
   -- A file holds a plan that is no harder than table P, whose bounds are given: runs on byte lists with the table list that
   -- the file is read into keep them.
   pub file_promise :
-      (P : Table) → NoHarder P T → (before after : bounds.Lists) (answer : ℕ) → Bounding P before after (Verdict answer)
+      (P : Table) → NoHarder P T → (before after : bounds.Lists) (answer : ℕ) → Bounding P before after (Ok answer)
       → (task : ℕ) → RackEndsWithin (list_read file list) task (at after.chain (pred task))
   file_promise P easier before after answer bounding =
       rack_promise P (list_read file list) file_held.size file_held.plan (no_harder_held P easier) before after answer bounding

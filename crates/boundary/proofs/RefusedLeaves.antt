@@ -1,10 +1,9 @@
 -- A call on byte lists that is refused leaves the state list, byte for byte, whatever lists it was given.
-use Rattle.std.specs.Prelude.{ℕ, ◌≡◌, ◌≢◌, Bool, List}
+use Rattle.std.specs.Prelude.{ℕ, ◌≡◌, ◌≢◌, Bool, List, Err, Ok, Result}
 use Rattle.std.proofs.Math.Path.{refl}
 use Rattle.std.proofs.Math.Bool.{true, false, cond}
-use Rattle.guards.specs.declared.state.Answer.{Answer}
-use Rattle.guards.specs.declared.state.Answer.TheVariants.{Taken, Refused}
-use Rattle.guards.specs.declared.state.Outcome.{Outcome}
+use Rattle.table.specs.declared.refusal.Refusal.{Refusal}
+use Rattle.guards.specs.Outcome.{Outcome}
 use Rattle.promise.specs.Promise.{Call}
 use Rattle.rack.specs.declared.answer.RackAnswer.{RackAnswer}
 use Rattle.rack.specs.Layouts.{rows_in}
@@ -12,10 +11,10 @@ use Rattle.rack.specs.RackCalls.{StateOutcome, answered_as, list_after, kept_in,
 use Rattle.boundary.specs.OnBytes.{rack_outcome}
 
 module _ (table state : List ℕ) where
-  after_refused : (a : Answer) (written : List ℕ) → (answered_as a).number ≢ 0 → list_after a written state ≡ state
+  after_refused : (a : Result ℕ Refusal) (written : List ℕ) → (answered_as a).number ≢ 0 → list_after a written state ≡ state
   unfolding answered_as list_after
-  after_refused (Taken value) written no_zero = absurd (no_zero refl)
-  after_refused (Refused refusal) written no_zero = refl
+  after_refused (Ok value) written no_zero = absurd (no_zero refl)
+  after_refused (Err refusal) written no_zero = refl
 
   kept_leaves : (n : ℕ) (o : Outcome) → (kept_in n state o).answer.number ≢ 0 → (kept_in n state o).state ≡ state
   unfolding kept_in

@@ -1,5 +1,5 @@
 -- From a report to the runs on byte lists: what the report of a plan's file says of its chains is kept.
-use Rattle.std.specs.Prelude.{ℕ, zero, suc, pred, ◌≤◌, ◌<◌, ◌≡◌, refl, Bool, true, false, cond, List, ltb, pos, length, replicate}
+use Rattle.std.specs.Prelude.{ℕ, zero, suc, pred, ◌≤◌, ◌<◌, ◌≡◌, refl, Bool, true, false, cond, List, ltb, pos, length, replicate, Ok}
 use Rattle.std.proofs.Common.{sym, ◌∙◌, ap, arith}
 use Rattle.std.proofs.Math.Decide.{dec_lt}
 use borrow.Author.Tests.{eq-eqb, le-leb}
@@ -12,9 +12,7 @@ use Rattle.table.specs.TableLaws.{long_true}
 use Rattle.table.specs.declared.refusal.Refusal.{Refusal}
 use Rattle.table.specs.declared.refusal.Refusal.TheVariants.{TooShort}
 use Rattle.planfile.specs.Reading.{Held, held}
-use Rattle.bounds.specs.declared.Bounded.TheVariants.{Verdict}
 use Rattle.bounds.specs.Bounds.{Numbers, Analysis, chain_bound, accepted, Lists, needed, filled_in, Bounding}
-use Rattle.report.specs.declared.Reporting.TheVariants.{Bytes}
 use Rattle.report.specs.Report.{report_text}
 use Rattle.report.specs.Reporting.{ReportOutcome, refused, delivered, Reported, FileReported}
 use Rattle.promise.proofs.Theorem.{no_harder_self, within_deadline}
@@ -46,7 +44,7 @@ module _ (T : Table) (N : Numbers) where
   no_more_needed =
       rw (long_true (rows T) (replicate (rows T) 0) (replicate (rows T) 0) (replicate (rows T) 0) (omega (arith, length-replicate {A = ℕ} (rows T) 0)), length-replicate {A = ℕ} T.tasks 0, length-replicate T.tasks (pos 0), le-leb T.tasks T.tasks (omega arith))
 
-  bounding : is_plan T ≡ true → Analysis T N → Bounding T room (filled_in T N room) (Verdict (cond (accepted T N) 1 0))
+  bounding : is_plan T ≡ true → Analysis T N → Bounding T room (filled_in T N room) (Ok (cond (accepted T N) 1 0))
   bounding plan analysis = (plan, no_more_needed, record { numbers = N; analysis = analysis; lists = refl; says = refl })
 
   -- An entry of a list of zeros is 0.
@@ -90,7 +88,7 @@ delivers {w} text out z e = go (ltb (length out) (length text)) refl
         let d : w ≡ refused (TooShort (length text)) out = e ∙ rw q in
         absurd (not_refused z d)
     go false q =
-        let d : w ≡ record { answer = Bytes (length text); out = laid text out } = e ∙ rw q in
+        let d : w ≡ record { answer = Ok (length text); out = laid text out } = e ∙ rw q in
         ap (λ (x : ReportOutcome). x.out) d
 
 -- Where the rack reports a file with number 0, its report is kept.

@@ -1,17 +1,16 @@
 -- A file that was read into a table list: the list holds its plan.
-use Rattle.std.specs.Prelude.{ℕ, ◌≡◌, List, length, drop}
+use Rattle.std.specs.Prelude.{ℕ, ◌≡◌, List, length, drop, Err, Ok, Result}
 use Rattle.std.proofs.Math.Path.{refl, sym, ap}
 use Rattle.std.proofs.Common.{◌∙◌, subst, arith, le-ltb, eq-eqb}
 use Rattle.std.proofs.Math.ListN.{get_or-append}
 use Rattle.facts.specs.TestsLaws.{clash}
 use Rattle.facts.specs.Filled.{filled, laid}
 use Rattle.facts.specs.FilledLaws.{filled_ext, laid_filled}
+use Rattle.table.specs.declared.refusal.Refusal.{Refusal}
 use Rattle.table.specs.Table.{Table, at, rows, is_plan}
 use Rattle.table.specs.TableLaws.{Checked}
 use Rattle.table.specs.Refusals.{number_of}
 use Rattle.planfile.specs.declared.read.Counts.{Counts}
-use Rattle.planfile.specs.declared.read.Reading.{Reading}
-use Rattle.planfile.specs.declared.read.Reading.TheVariants.{Read, Refused}
 use Rattle.table.specs.Keys.{no_key}
 use Rattle.planfile.specs.DraftLaws.{Shape, draft_of}
 use Rattle.planfile.specs.Reading.{Lists, laid_over, read}
@@ -51,7 +50,7 @@ module _ (file list : List ℕ) (size : length list ≡ table_bytes) where
   unfolding rack_table
   rack_table_from_read = rw (le-ltb (length list) table_bytes (omega arith))
 
-  module _ (c : Counts) (e : (read file room_for).answer ≡ Read c) where
+  module _ (c : Counts) (e : (read file room_for).answer ≡ Ok c) where
     -- The table that the reader answers.
     abbrev S : Table
     S = planfile.table_in c (read file room_for).lists
@@ -61,7 +60,7 @@ module _ (file list : List ℕ) (size : length list ≡ table_bytes) where
 
     outcome : rack_table file list ≡ record { answer = record { number = 0; value = rows S }; table = with_table S list }
     unfolding table_from
-    outcome = rack_table_from_read ∙ ap (λ (a : Reading). table_from a (read file room_for).lists list) e
+    outcome = rack_table_from_read ∙ ap (λ (a : Result Counts Refusal). table_from a (read file room_for).lists list) e
 
     read_back : table_in (with_table S list) ≡ S
     read_back =
@@ -98,9 +97,9 @@ module _ (file list : List ℕ) (size : length list ≡ table_bytes) where
   unfolding table_from refused_as
   rack_table_held answered = go (read file room_for).answer refl
     where
-      go : (a : Reading) → (read file room_for).answer ≡ a → PlanHeld file list
-      go (Read c) e = plan_held c e
-      go (Refused refusal) e =
+      go : (a : Result Counts Refusal) → (read file room_for).answer ≡ a → PlanHeld file list
+      go (Ok c) e = plan_held c e
+      go (Err refusal) e =
           let number : number_of refusal ≡ 0 =
-          sym (ap (λ (o : TableOutcome). o.answer.number) (rack_table_from_read ∙ ap (λ (a : Reading). table_from a (read file room_for).lists list) e)) ∙ answered in
+          sym (ap (λ (o : TableOutcome). o.answer.number) (rack_table_from_read ∙ ap (λ (a : Result Counts Refusal). table_from a (read file room_for).lists list) e)) ∙ answered in
           absurd (clash (eq-eqb _ _ number) (refusal_number refusal))

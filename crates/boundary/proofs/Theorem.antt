@@ -1,5 +1,5 @@
 -- Demand 3 and "fits is kept", for the state list that the host keeps.
-use Rattle.std.specs.Prelude.{ℕ, suc, pred, ◌+◌, ◌*◌, ◌≤◌, ◌<◌, ◌≡◌, refl, true, List, length}
+use Rattle.std.specs.Prelude.{ℕ, suc, pred, ◌+◌, ◌*◌, ◌≤◌, ◌<◌, ◌≡◌, refl, true, List, length, Ok}
 use Rattle.std.proofs.Common.{sym, ◌∙◌, ap, arith, eq-eqb, eqb-true}
 use Rattle.facts.specs.TestsLaws.{clash}
 use Rattle.words.specs.Words.{word}
@@ -7,11 +7,10 @@ use Rattle.table.specs.Table.{Table, at, first_row, rows, is_plan}
 use Rattle.table.specs.TableLaws.{Checked, checked}
 use Rattle.table.specs.Plan.{plan_of, in_force}
 use Rattle.table.specs.PlanLaws.{first_row_mono}
-use Rattle.bounds.specs.declared.Bounded.TheVariants.{Verdict}
 use Rattle.bounds.specs.Bounds.{Lists, Bounding}
 use Rattle.bounds.specs.NoHarder.{NoHarder}
 use Rattle.guards.specs.declared.state.State.{State}
-use Rattle.guards.specs.declared.state.Outcome.{Outcome}
+use Rattle.guards.specs.Outcome.{Outcome}
 use Rattle.guards.specs.Moment.{moment_of}
 use Rattle.guards.specs.Fits.{fits}
 use Rattle.guards.specs.Calls.{fresh_start, arrive}
@@ -147,7 +146,7 @@ module _ (table : List ℕ) (size : length table ≡ table_bytes) (plan : is_pla
 -- Demand 3 on byte lists: the table list holds a plan that is no harder than table P, whose bounds are given.
 pub rack_promise :
     (P : Table) (table : List ℕ) → length table ≡ table_bytes → is_plan (table_in table) ≡ true → NoHarder P (table_in table)
-    → (before after : Lists) (answer : ℕ) → Bounding P before after (Verdict answer)
+    → (before after : Lists) (answer : ℕ) → Bounding P before after (Ok answer)
     → (task : ℕ) → RackEndsWithin table task (at after.chain (pred task))
 rack_promise P table size plan easier before after answer bounds task =
     ends_on_bytes table size plan task (at after.chain (pred task))
@@ -156,7 +155,7 @@ rack_promise P table size plan easier before after answer bounds task =
 -- So where P is accepted, every instance of a task ends within its deadline in force.
 pub rack_deadline :
     (P : Table) (table : List ℕ) → length table ≡ table_bytes → is_plan (table_in table) ≡ true → NoHarder P (table_in table)
-    → (before after : Lists) → Bounding P before after (Verdict 1)
+    → (before after : Lists) → Bounding P before after (Ok 1)
     → (task : ℕ) → RackEndsWithin table task (in_force (table_in table) (pred task))
 rack_deadline P table size plan easier before after bounds task =
     ends_on_bytes table size plan task (in_force (table_in table) (pred task))

@@ -1,11 +1,9 @@
 -- From a plan's file to the runs on byte lists: the table list that holds the file's plan, and the report that is kept.
-use Rattle.std.specs.Prelude.{ℕ, pred, ◌≤◌, ◌≡◌, true, List, length}
+use Rattle.std.specs.Prelude.{ℕ, pred, ◌≤◌, ◌≡◌, true, List, length, Ok}
 use Rattle.facts.specs.Filled.{laid}
 use Rattle.table.specs.Table.{Table, rows, is_plan}
 use Rattle.table.specs.Plan.{in_force}
 use Rattle.planfile.specs.declared.read.Counts.{Counts}
-use Rattle.planfile.specs.declared.read.Reading.TheVariants.{Read}
-use Rattle.planfile.specs.declared.write.Writing.TheVariants.{Bytes}
 use Rattle.planfile.specs.Reading.{Held, held, read}
 use Rattle.planfile.specs.Writing.{write}
 use Rattle.planfile.specs.Answered as planfile
@@ -23,7 +21,7 @@ list_read file list = (rack_table file list).table
 pub record PlanHeld (file list : List ℕ) : Type 0 where
   -- The file was read, and the list holds the table that reading it into lists of zeros gives.
   pub counts : Counts
-  pub reads : (read file room_for).answer ≡ Read counts
+  pub reads : (read file room_for).answer ≡ Ok counts
   pub holds : table_in (list_read file list) ≡ planfile.table_in counts (read file room_for).lists
   -- The list is of the layout's length, so every call tries it; its table is a plan, and the answer is its number of rows.
   pub size : length (list_read file list) ≡ table_bytes
@@ -32,7 +30,7 @@ pub record PlanHeld (file list : List ℕ) : Type 0 where
   -- Written again, it is the file, byte for byte.
   pub written :
       (out : List ℕ) → length file ≤ length out
-      → write (table_in (list_read file list)) out ≡ record { answer = Bytes (length file); out = laid file out }
+      → write (table_in (list_read file list)) out ≡ record { answer = Ok (length file); out = laid file out }
 
 -- The output, which was out before, holds the report of the file's plan; and runs with the table list that the file is read
 -- into keep it.

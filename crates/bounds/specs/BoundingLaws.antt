@@ -1,5 +1,5 @@
 -- From what the parts promise to the outcome of the whole.
-use Rattle.std.specs.Prelude.{◌≡◌, refl, Bool, true, false, cond, ℕ, ◌<◌, ℤ}
+use Rattle.std.specs.Prelude.{◌≡◌, refl, Bool, true, false, cond, ℕ, ◌<◌, ℤ, Err, Ok, Result}
 use Rattle.std.proofs.Math.Path.{ap}
 use Rattle.std.proofs.Common.{sym, subst, ◌∙◌, arith}
 use mathlib.Core.List.{List}
@@ -9,19 +9,17 @@ use Rattle.facts.specs.Filled.{filled}
 use Rattle.facts.specs.FilledLaws.{get_d_filled, length_filled, filled_ext}
 use Rattle.table.specs.declared.refusal.Refusal.{Refusal}
 use Rattle.table.specs.declared.refusal.Refusal.TheVariants.{NotAPlan, TooShort}
-use Rattle.table.specs.Table.{Table, table_of, at, first_row, rows, is_plan}
+use Rattle.table.specs.Table.{Table, at, first_row, rows, is_plan}
 use Rattle.table.specs.TableLaws.{Checked, checked, long_true}
 use Rattle.table.specs.Plan.{plan_of, in_force}
 use Rattle.table.specs.PlanLaws.{right_of, small_of}
 use Rattle.equations.specs.RowLaws.{bound_within}
 use Rattle.equations.specs.BesideLaws.{proper_of}
-use Rattle.busy.specs.declared.Numbered.{Numbered}
-use Rattle.busy.specs.declared.Numbered.TheVariants.{Rows, Refused}
 use Rattle.busy.specs.Numbering.{RowLists, row_lists_of, room_for_rows, rows_filled_in, Found, Unnumbered, no_plan as unplanned, too_short as unroomy, no_busy_length as stuck, Numbering}
 use Rattle.busy.specs.BusyLaws.{Same, analysis_same}
 use Rattle.busy.specs.Rows.{numbers_of}
 use Rattle.bounds.specs.Bounds.{Numbers, Analysis, chain_bound, slack_of, accepted, Lists, lists_of, needed, filled_in, Given, Refusing, no_plan, too_short, no_busy_length}
-use Rattle.bounds.specs.Chains.{tasks_of, bounds_of, Chained}
+use Rattle.bounds.specs.Chains.{bounds_of, Chained}
 use Rattle.bounds.specs.Room.{needed_for, rows_in}
 use Rattle.bounds.specs.RoomLaws.{needed_same, Room, room_for}
 
@@ -34,10 +32,13 @@ lists_same :
     → ◌≡◌ {A = Lists} (lists_of a b c d s) (lists_of a' b' c' d' s')
 lists_same ea eb ec ed es = rw (ea, eb, ec, ed, es)
 
-module _ (processors tasks : ℕ) (period deadline steps processor priority time : List ℕ) where
-  abbrev T : Table
-  T = table_of processors tasks period deadline steps processor priority time
+-- The rows' outcome, where the lists are named otherwise.
+pub numbering_named :
+    (T : Table) (l : RowLists) {a a' b b' c c' : List ℕ} (x : Result ℕ Refusal) → a' ≡ a → b' ≡ b → c' ≡ c
+    → Numbering T l (row_lists_of a b c) x → Numbering T l (row_lists_of a' b' c') x
+numbering_named T l x ea eb ec h = rw (ea, eb, ec) h
 
+module _ (T : Table) where
   some_row : is_plan T ≡ true → 0 < rows T
   unfolding plan_of
   some_row t = (small_of T (checked T t)).some
@@ -62,23 +63,24 @@ module _ (processors tasks : ℕ) (period deadline steps processor priority time
       go true t = record { plan = t; count = e ∙ rw t }
       go false t = absurd (ne (e ∙ rw t))
 
-  module _ {n : ℕ} (q : Planned n) (l : Lists) where
+  -- The table is a plan with n rows, and the lists are l.
+  module _ {n : ℕ} (plan : is_plan T ≡ true) (count : n ≡ rows T) (l : Lists) where
     ok : Checked T
-    ok = checked T q.plan
+    ok = checked T plan
 
     -- What the first short list needs, by the number of rows that was counted: it is refused, or nothing is needed.
-    pub needed_is : {r : ℕ} → r ≡ needed_for n tasks l → needed T l ≡ r
-    needed_is e = sym (needed_same T l) ∙ ap (λ (k : ℕ). needed_for k tasks l) (sym q.count) ∙ sym e
+    pub needed_is : {r : ℕ} → r ≡ needed_for n T.tasks l → needed T l ≡ r
+    needed_is e = sym (needed_same T l) ∙ ap (λ (k : ℕ). needed_for k T.tasks l) (sym count) ∙ sym e
 
-    pub refusing_needed : {r : ℕ} → r ≡ needed_for n tasks l → (r ≡ 0 → ⊥) → Refusing T l (TooShort r)
-    refusing_needed {r} e ne = let is : needed T l ≡ r = needed_is e in too_short (ap TooShort (sym is)) q.plan (omega arith)
+    pub refusing_needed : {why : Refusal} → why ≡ TooShort (needed_for n T.tasks l) → 0 < needed_for n T.tasks l → Refusing T l why
+    refusing_needed e h = too_short (e ∙ ap TooShort (sym (needed_is refl))) plan (omega (arith, needed_is refl))
 
-    module _ {r : ℕ} (e : r ≡ needed_for n tasks l) (z : r ≡ 0) where
+    module _ (z : needed_for n T.tasks l ≡ 0) where
       pub none_needed : needed T l ≡ 0
-      none_needed = needed_is e ∙ z
+      none_needed = needed_is refl ∙ z
 
-      pub room : Room (rows T) tasks l
-      room = room_for (rows T) tasks l (some_row q.plan) ok.tasks_least (needed_same T l ∙ none_needed)
+      pub room : Room (rows T) T.tasks l
+      room = room_for (rows T) T.tasks l (some_row plan) ok.tasks_least (needed_same T l ∙ none_needed)
 
       roomy : room_for_rows T (row_lists_in l) ≡ true
       roomy =
@@ -90,19 +92,19 @@ module _ (processors tasks : ℕ) (period deadline steps processor priority time
       refusing (unroomy u t s) = absurd (clash roomy s)
       refusing (stuck u t w s) = no_busy_length u t none_needed s
 
-      module _ (x : Numbered) (after : RowLists) (h : Numbering T (row_lists_in l) after x) where
+      module _ (x : Result ℕ Refusal) (after : RowLists) (h : Numbering T (row_lists_in l) after x) where
         -- The rows were refused, and so are the bounds: all lists are left.
         pub refused :
-            (why : Refusal) → x ≡ Refused why
+            (why : Refusal) → x ≡ Err why
             → Refusing T l why × (lists_of after.busy after.instances after.bound l.chain l.slack ≡ l)
         refused why f = (refusing h'.0, ap (λ (rest : RowLists). lists_of rest.busy rest.instances rest.bound l.chain l.slack) h'.1)
           where
-            h' : Numbering T (row_lists_in l) after (Refused why)
-            h' = subst (λ (k : Numbered). Numbering T (row_lists_in l) after k) f h
+            h' : Numbering T (row_lists_in l) after (Err why)
+            h' = subst (λ (k : Result ℕ Refusal). Numbering T (row_lists_in l) after k) f h
 
-        module _ {k : ℕ} (f : x ≡ Rows k) where
+        module _ {k : ℕ} (f : x ≡ Ok k) where
           found : Found T (row_lists_in l) after k
-          found = (subst (λ (y : Numbered). Numbering T (row_lists_in l) after y) f h).2
+          found = (subst (λ (y : Result ℕ Refusal). Numbering T (row_lists_in l) after y) f h).2
 
           abbrev N : Numbers
           N = found.numbers
@@ -134,7 +136,7 @@ module _ (processors tasks : ℕ) (period deadline steps processor priority time
           analysis = analysis_same read found.analysis
 
           -- the chains can be summed,
-          pub chained : Chained tasks period deadline steps after.bound
+          pub chained : Chained T after.bound
           unfolding plan_of rows first_row
           chained = record {
             few = ok.tasks_most;
@@ -152,9 +154,9 @@ module _ (processors tasks : ℕ) (period deadline steps processor priority time
           -- and the lists are filled.
           pub given :
               {chain : List ℕ} {slack : List ℤ} {answer : ℕ}
-              → chain ≡ filled (chain_bound (tasks_of tasks period deadline steps) (bounds_of after.bound)) tasks l.chain
-              → slack ≡ filled (slack_of (tasks_of tasks period deadline steps) (bounds_of after.bound)) tasks l.slack
-              → answer ≡ cond (accepted (tasks_of tasks period deadline steps) (bounds_of after.bound)) 1 0
+              → chain ≡ filled (chain_bound T (bounds_of after.bound)) T.tasks l.chain
+              → slack ≡ filled (slack_of T (bounds_of after.bound)) T.tasks l.slack
+              → answer ≡ cond (accepted T (bounds_of after.bound)) 1 0
               → Given T l (lists_of after.busy after.instances after.bound chain slack) answer
           unfolding filled_in chain_bound slack_of in_force accepted first_row
           given ec es ea = record {

@@ -1,5 +1,5 @@
 -- The bounds of a plan: what is answered, and what the lent lists then hold (document 01, "Bounds" and "Numbers that say no").
-use Rattle.std.specs.Prelude.{◌≡◌, Bool, true, false, cond, ◌&&◌, List, ℕ, suc, ◌+◌, ◌<◌, leb, length, ℤ, pos, ◌-ℤ◌}
+use Rattle.std.specs.Prelude.{◌≡◌, Bool, true, false, cond, ◌&&◌, List, ℕ, suc, ◌+◌, ◌<◌, leb, length, ℤ, pos, ◌-ℤ◌, Err, Ok, Result}
 use Rattle.std.specs.Int.Signed.{le_z}
 use Rattle.facts.specs.Sums.{sum}
 use Rattle.facts.specs.Tests.{all}
@@ -9,8 +9,6 @@ use Rattle.table.specs.declared.refusal.Refusal.TheVariants.{NotAPlan, NoBusyLen
 use Rattle.table.specs.Table.{Table, at, first_row, rows, long_enough, is_plan}
 use Rattle.table.specs.Plan.{in_force}
 pub use Rattle.busy.specs.Busy.{limit, equations, Numbers, Analysis, Stuck}
-use Rattle.bounds.specs.declared.Bounded.{Bounded}
-use Rattle.bounds.specs.declared.Bounded.TheVariants.{Verdict, Refused}
 
 -- "A chain's bound is the sum of its rows' bounds." Tasks are counted from 0.
 unfoldable pub chain_bound : Table → Numbers → ℕ → ℕ
@@ -73,6 +71,6 @@ pub data Refusing (T : Table) (before : Lists) (r : Refusal) : Type 0 where
       {row : ℕ} → r ≡ NoBusyLength (suc row) → is_plan T ≡ true → needed T before ≡ 0 → Stuck T row → Refusing T before r
 
 -- The whole outcome of the bounds of table T on the lent lists: a refusal leaves them as they were.
-abbrev pub Bounding : Table → Lists → Lists → Bounded → Type 0
-Bounding T before after (Verdict answer) = (is_plan T ≡ true) × (needed T before ≡ 0) × Given T before after answer
-Bounding T before after (Refused r) = Refusing T before r × (after ≡ before)
+abbrev pub Bounding : Table → Lists → Lists → Result ℕ Refusal → Type 0
+Bounding T before after (Ok answer) = (is_plan T ≡ true) × (needed T before ≡ 0) × Given T before after answer
+Bounding T before after (Err r) = Refusing T before r × (after ≡ before)

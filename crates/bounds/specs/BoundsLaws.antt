@@ -1,5 +1,5 @@
 -- Any two outcomes of the bounds are equal.
-use Rattle.std.specs.Prelude.{◌≡◌, Bool, cond, ℕ, suc, ◌+◌, ◌<◌}
+use Rattle.std.specs.Prelude.{◌≡◌, Bool, cond, ℕ, suc, ◌+◌, ◌<◌, Err, Ok, Result}
 use Rattle.std.proofs.Common.{ap, sym, ◌∙◌, arith}
 use Rattle.facts.specs.SumsLaws.{sum_ext}
 use Rattle.facts.specs.TestsLaws.{clash, all_ext}
@@ -9,8 +9,6 @@ use Rattle.table.specs.declared.refusal.Refusal.TheVariants.{NoBusyLength}
 use Rattle.table.specs.Table.{Table, at, first_row, rows}
 use Rattle.table.specs.PlanLaws.{first_row_suc, first_row_mono}
 pub use Rattle.busy.specs.BusyLaws.{Same, analysis_one, never_stuck, stuck_one}
-use Rattle.bounds.specs.declared.Bounded.{Bounded}
-use Rattle.bounds.specs.declared.Bounded.TheVariants.{Verdict, Refused}
 use Rattle.bounds.specs.Bounds.{Numbers, chain_bound, slack_of, accepted, Lists, filled_in, Given, Refusing, no_plan, too_short, no_busy_length, Bounding}
 
 -- Step s of task i is one of the table's rows.
@@ -50,7 +48,7 @@ refusal_one (no_busy_length e p z s) (no_busy_length e' p' z' s') =
 
 -- Where there are bounds, nothing is refused.
 pub given_not_refused :
-    {T : Table} {before after : Lists} {answer : ℕ} {r : Refusal} → Bounding T before after (Verdict answer) → Refusing T before r → ⊥
+    {T : Table} {before after : Lists} {answer : ℕ} {r : Refusal} → Bounding T before after (Ok answer) → Refusing T before r → ⊥
 given_not_refused g (no_plan e n) = clash g.0 n
 given_not_refused g (too_short e p s) = omega (arith, g.1)
 given_not_refused g (no_busy_length e p z s) = never_stuck g.2.analysis s
@@ -64,9 +62,9 @@ given_one {T} {before} a b =
 
 -- The lists and the answer are determined by the table and the lists lent.
 pub bounding_one :
-    (T : Table) (before after after' : Lists) (r r' : Bounded)
+    (T : Table) (before after after' : Lists) (r r' : Result ℕ Refusal)
     → Bounding T before after r → Bounding T before after' r' → (after ≡ after') × (r ≡ r')
-bounding_one T before after after' (Verdict x) (Verdict y) a b = let e = given_one a.2 b.2 in (e.0, ap Verdict e.1)
-bounding_one T before after after' (Verdict x) (Refused s) a b = absurd (given_not_refused a b.0)
-bounding_one T before after after' (Refused r) (Verdict y) a b = absurd (given_not_refused b a.0)
-bounding_one T before after after' (Refused r) (Refused s) a b = (a.1 ∙ sym b.1, ap Refused (refusal_one a.0 b.0))
+bounding_one T before after after' (Ok x) (Ok y) a b = let e = given_one a.2 b.2 in (e.0, ap Ok e.1)
+bounding_one T before after after' (Ok x) (Err s) a b = absurd (given_not_refused a b.0)
+bounding_one T before after after' (Err r) (Ok y) a b = absurd (given_not_refused b a.0)
+bounding_one T before after after' (Err r) (Err s) a b = (a.1 ∙ sym b.1, ap Err (refusal_one a.0 b.0))

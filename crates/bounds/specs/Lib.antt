@@ -8,3 +8,4 @@ pub mod ChainsLaws
 pub mod Room
 pub mod RoomLaws
 pub mod BoundingLaws
+pub mod Held

@@ -1,5 +1,5 @@
 -- The first half of demand 3, proved: over the analysis, and over the outcomes that the bounds' contract allows.
-use Rattle.std.specs.Prelude.{◌≡◌, refl, Bool, false, pos, ◌≤ℤ◌}
+use Rattle.std.specs.Prelude.{◌≡◌, refl, Bool, false, pos, ◌≤ℤ◌, Err, Ok, Result}
 use Rattle.std.proofs.Math.Path.{ap, sym}
 use Rattle.std.proofs.Common.{◌∙◌, arith}
 use Rattle.std.proofs.Math.Bool.{true}
@@ -15,6 +15,7 @@ use Rattle.facts.specs.Rounding.{ceil}
 use Rattle.facts.specs.LeastLaws.{Answer}
 use Rattle.facts.specs.Filled.{filled}
 use Rattle.facts.specs.FilledLaws.{get_d_filled}
+use Rattle.table.specs.declared.refusal.Refusal.{Refusal}
 use Rattle.table.specs.Table.{Table, at, first_row, rows, is_plan}
 use Rattle.table.specs.TableLaws.{Checked, checked}
 use Rattle.table.specs.Plan.{task_of, plan_of, in_force}
@@ -22,8 +23,6 @@ use Rattle.table.specs.PlanLaws.{right_of, task_row}
 use Rattle.equations.specs.Row.{work, RowBounds}
 use Rattle.equations.specs.RowLaws.{row_bounds}
 use Rattle.equations.specs.BesideLaws.{proper_of, Lighter, busy_lighter, row_bounds_lighter}
-use Rattle.bounds.specs.declared.Bounded.{Bounded}
-use Rattle.bounds.specs.declared.Bounded.TheVariants.{Verdict, Refused}
 use Rattle.bounds.specs.SlackLaws.{less_sign, less_mono}
 use Rattle.bounds.specs.Bounds.{limit, equations, Numbers, Analysis, chain_bound, slack_of, accepted, Lists, needed, filled_in, Refusing, no_plan, too_short, no_busy_length, Bounding}
 use Rattle.bounds.specs.BoundsLaws.{step_row, never_stuck}
@@ -152,10 +151,10 @@ module _ {T S : Table} (h : NoHarder T S) where
 -- Table S is a plan and no harder than table T, whose bounds are given: on lists that are long enough S's bounds are given
 -- too, none larger and no slack smaller, and S is accepted if T is.
 pub no_harder :
-    (T S : Table) → NoHarder T S → (before after : Lists) (answer : ℕ) → Bounding T before after (Verdict answer)
-    → is_plan S ≡ true → (before' after' : Lists) → needed S before' ≡ 0 → (r : Bounded) → Bounding S before' after' r
-    → (answer' : ℕ) × (r ≡ Verdict answer') × NoLarger T after after' × (answer ≡ 1 → answer' ≡ 1)
-no_harder T S h before after answer g plan before' after' room (Verdict answer') b =
+    (T S : Table) → NoHarder T S → (before after : Lists) (answer : ℕ) → Bounding T before after (Ok answer)
+    → is_plan S ≡ true → (before' after' : Lists) → needed S before' ≡ 0 → (r : Result ℕ Refusal) → Bounding S before' after' r
+    → (answer' : ℕ) × (r ≡ Ok answer') × NoLarger T after after' × (answer ≡ 1 → answer' ≡ 1)
+no_harder T S h before after answer g plan before' after' room (Ok answer') b =
     let s : Smaller T g.2.numbers b.2.numbers = smaller h (checked T g.0) (checked S plan) g.2.analysis b.2.analysis in
     (answer', refl, rw (g.2.lists, b.2.lists) (lists_smaller h s before before'), stays s (accepted T g.2.numbers) refl)
   where
@@ -164,7 +163,7 @@ no_harder T S h before after answer g plan before' after' room (Verdict answer')
     stays s false e q =
         let z : answer ≡ 0 = g.2.says ∙ rw e in
         absurd (omega arith)
-no_harder T S h before after answer g plan before' after' room (Refused r) b = absurd (never b.0)
+no_harder T S h before after answer g plan before' after' room (Err r) b = absurd (never b.0)
   where
     never : Refusing S before' r → ⊥
     never (no_plan e n) = clash plan n

@@ -1,13 +1,16 @@
 // Bound and slack of each chain, and whether the plan is accepted.
 
-ghost use Rattle.std.specs.Prelude.{◌≡◌, cond, ℕ, ◌+◌, ◌≤◌, ◌<◌, length, pos, ◌-ℤ◌};
+ghost use Rattle.std.specs.Prelude.{◌≡◌, ℕ, ◌+◌, ◌≤◌, ◌<◌, length, pos, ◌-ℤ◌};
 ghost use Rattle.facts.specs.Filled.{filled};
 ghost use Rattle.facts.specs.Sums.{sum};
 ghost use Rattle.table.specs.Table.{at};
-ghost use Rattle.bounds.specs.Bounds.{accepted, chain_bound, slack_of};
-ghost use Rattle.bounds.specs.Chains.{Chained, bounds_of, tasks_of};
+ghost use Rattle.bounds.specs.Bounds.{accepted, chain_bound, lists_of, slack_of};
+ghost use Rattle.bounds.specs.Chains.{Chained, bounds_of};
+ghost use Rattle.bounds.specs.Held.{lists_in, names_in};
 
+use crate::lists::BoundLists;
 use table::deadline::in_force;
+use table::view::TableView;
 
 // What is left of the deadline: signed, since the bound may be the greater.
 fn slack_of(deadline: u64, bound: u64) -> i64
@@ -17,48 +20,41 @@ fn slack_of(deadline: u64, bound: u64) -> i64
     (deadline as i64) - (bound as i64)
 }
 
-// The bounds of `steps` rows together, from row `first` on.
-fn chain_bound(bounds: &[u64], first: usize, steps: usize) -> u64
-    requires { (first + steps ≤ 128) × (first + steps ≤ length bounds.now) × (steps ≤ 16) × ((i : ℕ) → i < first + steps → at bounds.now i ≤ 10000000) }
-    ensures { (result ≡ sum steps (λ s. at bounds.now (first + s))) × (result ≤ 160000000) }
-{
-    let mut all: u64 = 0;
-    let mut step: usize = 0;
-    while step < steps {
-        let row = first + step;
-        all += bounds[row];
-        step += 1;
-    }
-    all
-}
-
-// Fills the task lists, and answers 1 if every slack is zero or more, else 0.
-pub(crate) fn fill_chains(
-    tasks: usize,
-    period: &[u64],
-    deadline: &[u64],
-    steps: &[u64],
-    bounds: &[u64],
-    chains: &mut [u64],
-    slack: &mut [i64],
-) -> u64
-    requires { Chained tasks period.now deadline.now steps.now bounds.now × (tasks ≤ length chains.old) × (tasks ≤ length slack.old) }
-    ensures { (chains.new ≡ filled (chain_bound (tasks_of tasks period.now deadline.now steps.now) (bounds_of bounds.now)) tasks chains.old) × (slack.new ≡ filled (slack_of (tasks_of tasks period.now deadline.now steps.now) (bounds_of bounds.now)) tasks slack.old) × (result ≡ cond (accepted (tasks_of tasks period.now deadline.now steps.now) (bounds_of bounds.now)) 1 0) }
-{
-    let mut verdict: u64 = 1;
-    let mut first: usize = 0;
-    let mut i: usize = 0;
-    while i < tasks {
-        let count = steps[i] as usize;
-        let bound = chain_bound(bounds, first, count);
-        let left = slack_of(in_force(period[i], deadline[i]), bound);
-        chains[i] = bound;
-        slack[i] = left;
-        if left < 0 {
-            verdict = 0;
+impl<'a> BoundLists<'a> {
+    // The bounds of `steps` rows together, from row `first` on.
+    fn chain_bound(&self, first: usize, steps: usize) -> u64
+        requires { (first + steps ≤ 128) × (first + steps ≤ length self.now.bounds.now) × (steps ≤ 16) × ((i : ℕ) → i < first + steps → at self.now.bounds.now i ≤ 10000000) }
+        ensures { (result ≡ sum steps (λ s. at self.now.bounds.now (first + s))) × (result ≤ 160000000) }
+    {
+        let mut all: u64 = 0;
+        for step in 0..steps {
+            all += self.bounds[first + step];
         }
-        first += count;
-        i += 1;
+        all
     }
-    verdict
+
+    // Fills the task lists from the rows' bounds, and says whether every slack is zero or more.
+    pub(crate) fn fill_chains<T: TableView>(&mut self, table: &T) -> bool
+        requires chained { Chained (T.table table.now) self.old.bounds.now }
+        requires room { ((T.table table.now).tasks ≤ length self.old.chains.now) × ((T.table table.now).tasks ≤ length self.old.slack.now) }
+        ensures same_place { names_in self.new ≡ names_in self.old }
+        ensures lists { lists_in self.new ≡ lists_of self.old.busy.now self.old.instances.now self.old.bounds.now (filled (chain_bound (T.table table.now) (bounds_of self.old.bounds.now)) (T.table table.now).tasks self.old.chains.now) (filled (slack_of (T.table table.now) (bounds_of self.old.bounds.now)) (T.table table.now).tasks self.old.slack.now) }
+        ensures accepted { result ≡ accepted (T.table table.now) (bounds_of self.old.bounds.now) }
+    {
+        let tasks = table.tasks() as usize;
+        let mut accepted = true;
+        let mut first: usize = 0;
+        for i in 0..tasks {
+            let count = table.steps(i) as usize;
+            let bound = self.chain_bound(first, count);
+            let left = slack_of(in_force(table.period(i), table.deadline(i)), bound);
+            self.chains[i] = bound;
+            self.slack[i] = left;
+            if left < 0 {
+                accepted = false;
+            }
+            first += count;
+        }
+        accepted
+    }
 }

@@ -1,5 +1,5 @@
 -- Any two outcomes of numbering the rows are equal.
-use Rattle.std.specs.Prelude.{◌≡◌, ℕ, suc, ◌≤◌, ◌<◌}
+use Rattle.std.specs.Prelude.{◌≡◌, ℕ, suc, ◌≤◌, ◌<◌, Err, Ok, Result}
 use Rattle.std.proofs.Common.{ap, sym, ◌∙◌, arith}
 use Rattle.std.proofs.Math.Decide.{dec_lt}
 use Rattle.facts.specs.TestsLaws.{clash}
@@ -11,8 +11,6 @@ use Rattle.table.specs.declared.refusal.Refusal.TheVariants.{NoBusyLength}
 use Rattle.table.specs.Table.{Table, rows}
 use Rattle.equations.specs.Row.{work}
 use Rattle.equations.specs.RowLaws.{row_bounds_one}
-use Rattle.busy.specs.declared.Numbered.{Numbered}
-use Rattle.busy.specs.declared.Numbered.TheVariants.{Rows, Refused}
 use Rattle.busy.specs.Busy.{limit, equations, Numbers, Analysis, Stuck}
 use Rattle.busy.specs.Numbering.{RowLists, rows_filled_in, Unnumbered, no_plan, too_short, no_busy_length, Numbering}
 
@@ -75,17 +73,17 @@ refusal_one (no_busy_length e p z s) (no_busy_length e' p' z' s') =
 
 -- Where the rows have numbers, nothing is refused.
 found_not_refused :
-    {T : Table} {before after : RowLists} {answer : ℕ} {r : Refusal} → Numbering T before after (Rows answer) → Unnumbered T before r → ⊥
+    {T : Table} {before after : RowLists} {answer : ℕ} {r : Refusal} → Numbering T before after (Ok answer) → Unnumbered T before r → ⊥
 found_not_refused g (no_plan e n) = clash g.0 n
 found_not_refused g (too_short e p s) = clash g.1 s
 found_not_refused g (no_busy_length e p z s) = never_stuck g.2.analysis s
 
 -- The lists and the answer are determined by the table and the lists lent.
 pub numbering_one :
-    (T : Table) (before after after' : RowLists) (r r' : Numbered)
+    (T : Table) (before after after' : RowLists) (r r' : Result ℕ Refusal)
     → Numbering T before after r → Numbering T before after' r' → (after ≡ after') × (r ≡ r')
-numbering_one T before after after' (Rows x) (Rows y) a b =
-    (a.2.lists ∙ rows_filled_same (analysis_one a.2.analysis b.2.analysis) before ∙ sym b.2.lists, ap Rows (a.2.says ∙ sym b.2.says))
-numbering_one T before after after' (Rows x) (Refused s) a b = absurd (found_not_refused a b.0)
-numbering_one T before after after' (Refused r) (Rows y) a b = absurd (found_not_refused b a.0)
-numbering_one T before after after' (Refused r) (Refused s) a b = (a.1 ∙ sym b.1, ap Refused (refusal_one a.0 b.0))
+numbering_one T before after after' (Ok x) (Ok y) a b =
+    (a.2.lists ∙ rows_filled_same (analysis_one a.2.analysis b.2.analysis) before ∙ sym b.2.lists, ap Ok (a.2.says ∙ sym b.2.says))
+numbering_one T before after after' (Ok x) (Err s) a b = absurd (found_not_refused a b.0)
+numbering_one T before after after' (Err r) (Ok y) a b = absurd (found_not_refused b a.0)
+numbering_one T before after after' (Err r) (Err s) a b = (a.1 ∙ sym b.1, ap Err (refusal_one a.0 b.0))

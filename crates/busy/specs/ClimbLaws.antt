@@ -14,7 +14,7 @@ use Rattle.facts.specs.RoundingLaws.{ceil_le, ceil_mono, ceil_pos, ceil_tight}
 use Rattle.facts.specs.Least.{Least, Unanswered}
 use Rattle.facts.specs.LeastLaws.{Rising, below_one, below_step, below_part, below_rises, below_stop, below_past}
 use Rattle.facts.specs.Filled.{filled}
-use Rattle.facts.specs.FilledLaws.{get_d_filled, get_d_rest, filled_none, filled_more, filled_keep}
+use Rattle.facts.specs.FilledLaws.{get_d_filled, get_d_rest, filled_none, filled_more, filled_keep, length_filled}
 use Rattle.table.specs.Table.{at}
 use Rattle.equations.specs.Row.{Row, work, work_to, Greatest}
 use Rattle.equations.specs.RowLaws.{Proper, work_to_sum, work_to_more, work_to_rising, none, some, greatest_more}
@@ -528,9 +528,11 @@ module _ (t work : ℕ) (period cost later begin best : List ℕ) where
 
   module _
       {tied i next : ℕ} {later' begin' best' : List ℕ} (l : i < tied) (q : Sought tied t work cost later begin)
-      (el : length later' ≡ length later) (eb : length begin' ≡ length begin) (em : length best' ≡ length best)
       (ll : i < length later) (lb : i < length begin) (lm : i < length best)
       (s : Settled i t work period cost later begin best later' begin' best' next) where
+    sizes : (length later' ≡ length later) × (length begin' ≡ length begin) × (length best' ≡ length best)
+    sizes = (rw s.later_is (length_filled _ i later (omega arith)), rw s.begin_is (length_filled _ i begin (omega arith)), rw s.best_is (length_filled _ i best (omega arith)))
+
     pub unsettled_rises : t + at later' i ≤ work
     unsettled_rises = omega (arith, later_unsettled s ll lb lm, q.rises i l)
 
@@ -546,22 +548,22 @@ module _ (t work : ℕ) (period cost later begin best : List ℕ) where
         1 ≤ at cost i → work - at later' i ≡ t → (v : ℕ) → v ≡ max (at best' i) (t - at begin' i)
         → Turned (set later' i (at later' i - at cost i)) (set begin' i (at begin' i + at period i)) (set best' i v) next i
     turned_yes p h v ev =
-        let same : at (set later' i (at later' i - at cost i)) i ≡ at later' i - at cost i = get_or-set_same later' i (at later' i - at cost i) 0 (omega arith) in
+        let same : at (set later' i (at later' i - at cost i)) i ≡ at later' i - at cost i = get_or-set_same later' i (at later' i - at cost i) 0 (omega (arith, sizes.0)) in
         let whole : at cost i ≤ at later' i = unsettled_whole h in
         let past : t < work - (at later' i - at cost i) = omega (arith, unsettled_rises) in
         record {
-          later_size = simp length-set el;
-          begin_size = simp length-set eb;
-          best_size = simp length-set em;
+          later_size = simp length-set sizes.0;
+          begin_size = simp length-set sizes.1;
+          best_size = simp length-set sizes.2;
           within = rw same (omega (arith, unsettled_rises));
           turn = λ n en. settled_yes s ll lb lm h v ev n (en ∙ rw same) past;
         }
 
     pub turned_no : (work - at later' i ≡ t → ⊥) → Turned later' begin' best' next i
     turned_no h = record {
-      later_size = el;
-      begin_size = eb;
-      best_size = em;
+      later_size = sizes.0;
+      begin_size = sizes.1;
+      best_size = sizes.2;
       within = omega (arith, unsettled_rises);
       turn = λ n en. settled_no s ll lb lm h n en (omega (arith, unsettled_rises));
     }

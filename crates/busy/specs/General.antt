@@ -1,10 +1,11 @@
 -- Laws that know no plan.
-use Rattle.std.specs.Prelude.{◌≡◌, refl, ℕ, ◌+◌, ◌*◌, ◌-◌, ◌≤◌, ◌<◌, List, length, get_or, set}
+use Rattle.std.specs.Prelude.{◌≡◌, refl, ℕ, zero, suc, min, ◌+◌, ◌*◌, ◌-◌, ◌/◌, ◌%◌, ◌≤◌, ◌<◌, List, length, get_or, set}
 use Rattle.std.proofs.Common.{ap, sym, ◌∙◌, Fits}
 use native.Mathlib.Nat.{mul-le-mul_right, mul-le-mul_left}
 use native.Mathlib.Omega.{arith, both_ways}
 use Rattle.std.proofs.Math.Decide.{dec_le}
 use Rattle.std.specs.Int.{w64}
+use Rattle.std.proofs.lemmas.Grind.{div_ceil_times}
 use Rattle.facts.specs.Filled.{filled}
 use Rattle.facts.specs.FilledLaws.{get_d_rest, filled_more, filled_keep}
 use Rattle.facts.specs.Rounding.{ceil}
@@ -67,6 +68,16 @@ ceil_zero {p} pp = omega (arith, ceil_le {x = 0} {p = p} {j = 0} pp (omega arith
 pub ceil_one : {x p : ℕ} → 0 < x → x ≤ p → ceil x p ≡ 1
 ceil_one {x} {p} h l =
     both_ways (ceil x p) 1 (ceil_le {x = x} {p = p} {j = 1} (omega arith) (omega arith)) (ceil_count {x = x} {p = p} {k = 0} (omega arith) (omega arith))
+
+-- A number of periods is the quotient, and one more where something is left.
+pub ceil_rounded : (x p : ℕ) → 0 < p → x / p + min 1 (x % p) ≡ ceil x p
+ceil_rounded x p h =
+    let b = div_ceil_times x p h in
+    both_ways (x / p + min 1 (x % p)) (ceil x p) (go (x / p + min 1 (x % p)) b.1) (ceil_le {x = x} {p = p} {j = x / p + min 1 (x % p)} h b.0)
+  where
+    go : (q : ℕ) → q * p < x + p → q ≤ ceil x p
+    go zero l = omega arith
+    go (suc k) l = ceil_count {x = x} {p = p} {k = k} h (omega (arith, l))
 
 -- Periods counted on from where s left off.
 pub ceil_on : {s t p : ℕ} → 0 < p → s ≤ t → ceil t p ≡ ceil s p + ceil (t - ceil s p * p) p

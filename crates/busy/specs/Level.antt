@@ -1,6 +1,8 @@
 -- The level of a row as it is gathered. The private functions of the analysis promise these.
-use Rattle.std.specs.Prelude.{◌≡◌, Bool, false, cond, ◌&&◌, List, ◌⊎◌, ℕ, ◌+◌, ◌≤◌, ◌<◌, ltb, eqb, length}
-use Rattle.table.specs.Table.{at}
+use Rattle.std.specs.Prelude.{◌≡◌, Bool, false, cond, ◌&&◌, List, ◌⊎◌, ℕ, ◌+◌, ◌≤◌, ◌<◌, ltb, eqb, length, set}
+use Rattle.table.specs.Table.{Table, at}
+use Rattle.table.specs.declared.refusal.Refusal.{Refusal}
+use Rattle.table.specs.declared.refusal.Refusal.TheVariants.{NoBusyLength}
 use Rattle.table.specs.Plan.{Plan}
 use Rattle.facts.specs.Rounding.{ceil}
 use Rattle.facts.specs.Least.{Unanswered}
@@ -47,6 +49,10 @@ plan_by rows period processor priority time = record {
   first = λ r. false;
 }
 
+-- The plan of a table's rows, with these as their periods.
+abbrev pub plan_seen : ℕ → List ℕ → Table → Plan
+plan_seen rows period T = plan_by rows period T.processor T.priority T.time
+
 -- The lists have so many rows, in range.
 pub record Usable (rows : ℕ) (period processor priority time : List ℕ) : Type 0 where
   pub few : rows ≤ 128
@@ -65,6 +71,20 @@ chosen processor priority place rank tied = eqb processor place && cond tied (eq
 
 abbrev pub chosen_in : List ℕ → List ℕ → ℕ → ℕ → Bool → ℕ → Bool
 chosen_in processor priority place rank tied r = chosen (at processor r) (at priority r) place rank tied
+
+-- The same for the rows of a table and its row r.
+abbrev pub chosen_by : Table → ℕ → Bool → ℕ → Bool
+chosen_by T r tied = chosen_in T.processor T.priority (at T.processor r) (at T.priority r) tied
+
+-- The level with one row more, the last.
+abbrev pub pushed : ℕ → ℕ → ℕ → Level → Level
+pushed row period cost l = record {
+  tied = l.tied;
+  count = l.count + 1;
+  index = set l.index l.count row;
+  period = set l.period l.count period;
+  cost = set l.cost l.count cost;
+}
 
 -- The level with the rows below n that pass the test gathered behind those that it has.
 unfoldable pub gathered : (ℕ → Bool) → List ℕ → List ℕ → ℕ → Level → Level
@@ -137,3 +157,10 @@ pub record Going
   pub bound_size : length bound ≡ length bound₀
   pub partly : Partly P busy instances bound row
   pub lent : Lent index period cost due later begin best
+
+-- The analysis stopped: row `row`, counted from 0, is the first with no busy length up to the limit.
+pub record Stopped (P : Plan) (busy instances bound : List ℕ) (r : Refusal) : Type 0 where
+  pub row : ℕ
+  pub refusal : r ≡ NoBusyLength (row + 1)
+  pub in_plan : row < P.rows
+  pub analysed : Analysed P busy instances bound row

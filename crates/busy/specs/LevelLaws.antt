@@ -24,7 +24,7 @@ use Rattle.busy.specs.Collected.{count_if, collected}
 use Rattle.busy.specs.CollectedLaws.{count_apart, count_yes, count_no, collected_yes, collected_no, length_collected, collected_kept, Holds, held, found, sum_collected, Lies, missed, hit, lies}
 use Rattle.busy.specs.Climb.{Ranged, work_of, gathered_row}
 use Rattle.busy.specs.ClimbLaws.{work_gathered}
-use Rattle.busy.specs.Level.{Level, level_by, Roomy, Lent, plan_by, Usable, chosen, chosen_in, gathered, Sound, level_work, level_row, LevelOf, TiedBounds, Laid, Solved, Analysed, Partly, Going}
+use Rattle.busy.specs.Level.{Level, level_by, Roomy, Lent, plan_by, Usable, chosen, chosen_in, pushed, gathered, Sound, level_work, level_row, LevelOf, TiedBounds, Laid, Solved, Analysed, Partly, Going}
 use Rattle.busy.specs.Busy.{limit}
 
 module _ (b : ℕ → Bool) (period time : List ℕ) (l : Level) where
@@ -34,13 +34,7 @@ module _ (b : ℕ → Bool) (period time : List ℕ) (l : Level) where
 
   -- The level after one row more, that passes or not.
   abbrev taken : ℕ → Level → Level
-  taken n x = record {
-    tied = x.tied;
-    count = x.count + 1;
-    index = set x.index x.count n;
-    period = set x.period x.count (at period n);
-    cost = set x.cost x.count (at time n);
-  }
+  taken n x = pushed n (at period n) (at time n) x
 
   pub gathered_yes : (n : ℕ) (x : Level) → x ≡ gathered b period time n l → b n ≡ true → taken n x ≡ gathered b period time (n + 1) l
   unfolding gathered
@@ -95,6 +89,12 @@ module _ (b : ℕ → Bool) (period time : List ℕ) (l : Level) where
       → (length x.index ≡ length l.index) × (length x.period ≡ length l.period) × (length x.cost ≡ length l.cost)
   unfolding gathered
   gathered_sizes n x e = rw e (length_collected b l.count (λ r. r) n l.index, length_collected b l.count (at period) n l.period, length_collected b l.count (at time) n l.cost)
+
+-- What the test answered of numbers that were read.
+pub chosen_read :
+    (tied : Bool) {p q a b p' q' a' b' : ℕ} {x y : Bool} → x ≡ chosen p q a b tied → p ≡ p' → q ≡ q' → a ≡ a' → b ≡ b' → x ≡ y
+    → chosen p' q' a' b' tied ≡ y
+chosen_read tied e f g h i j = rw (← f, ← g, ← h, ← i) (sym e ∙ j)
 
 -- What one gathering adds to a level with room for it.
 module _
@@ -290,19 +290,13 @@ module _ (rows : ℕ) (period processor priority time : List ℕ) (r : ℕ) wher
         here : (i : ℕ) → i < whole.tied → i < first.count
         here i h = omega (arith, whole_tied)
 
-    -- The same, for lists that are known to be gathered so, first up to `tied` and then up to `count`.
-    module _ (tied : ℕ) (index₁ period₁ cost₁ : List ℕ) (e : level_by 0 tied index₁ period₁ cost₁ ≡ first) where
-      pub room_after : tied + count_if rows urgent ≤ 128
-      room_after = let same : tied ≡ first.count = ap (λ (x : Level). x.count) e in omega (arith, same, whole_room)
+    -- The same, for levels that are known to be gathered so.
+    module _ (x : Level) (e : x ≡ first) where
+      pub room_after : x.count + count_if rows urgent ≤ 128
+      room_after = let same : x.count ≡ first.count = ap (λ (y : Level). y.count) e in omega (arith, same, whole_room)
 
-      pub level_built :
-          (count : ℕ) (index₂ period₂ cost₂ : List ℕ)
-          → level_by 0 count index₂ period₂ cost₂ ≡ gathered urgent period time rows (level_by 0 tied index₁ period₁ cost₁)
-          → LevelOf P r (level_by tied count index₂ period₂ cost₂)
-      unfolding gathered
-      level_built count index₂ period₂ cost₂ f =
-          let g : level_by tied count index₂ period₂ cost₂ ≡ gathered urgent period time rows (marked (level_by 0 tied index₁ period₁ cost₁)) = ap (λ (x : Level). level_by tied x.count x.index x.period x.cost) f in
-          rw (g ∙ ap (λ (u : Level). gathered urgent period time rows (marked u)) e) level_of
+      pub level_built : (y : Level) → y ≡ gathered urgent period time rows (marked x) → LevelOf P r y
+      level_built y f = rw (f ∙ ap (λ (u : Level). gathered urgent period time rows (marked u)) e) level_of
 
 -- The numbers of a level's tied rows are those of the plan's rows.
 module _ {P : Plan} {r : ℕ} {l : Level} (o : LevelOf P r l) (lr : r < P.rows) where

@@ -11,3 +11,4 @@ pub mod Rows
 pub mod RowsLaws
 pub mod Numbering
 pub mod NumberingLaws
+pub mod Held

@@ -1,11 +1,9 @@
 -- The whole outcome of numbering a plan's rows in lent lists (document 01, "Bounds" and "Numbers that say no").
-use Rattle.std.specs.Prelude.{◌≡◌, Bool, true, false, List, ℕ, suc}
+use Rattle.std.specs.Prelude.{◌≡◌, Bool, true, false, List, ℕ, suc, Err, Ok, Result}
 use Rattle.facts.specs.Filled.{filled}
 use Rattle.table.specs.declared.refusal.Refusal.{Refusal}
 use Rattle.table.specs.declared.refusal.Refusal.TheVariants.{NotAPlan, NoBusyLength, TooShort}
 use Rattle.table.specs.Table.{Table, rows, long_enough, is_plan}
-use Rattle.busy.specs.declared.Numbered.{Numbered}
-use Rattle.busy.specs.declared.Numbered.TheVariants.{Rows, Refused}
 use Rattle.busy.specs.Busy.{Numbers, Analysis, Stuck}
 
 -- The three lent lists, each with an entry for each row.
@@ -44,6 +42,6 @@ pub data Unnumbered (T : Table) (before : RowLists) (r : Refusal) : Type 0 where
       {row : ℕ} → r ≡ NoBusyLength (suc row) → is_plan T ≡ true → room_for_rows T before ≡ true → Stuck T row → Unnumbered T before r
 
 -- The whole outcome of numbering the rows of table T in the lent lists: a refusal leaves them as they were.
-abbrev pub Numbering : Table → RowLists → RowLists → Numbered → Type 0
-Numbering T before after (Rows answer) = (is_plan T ≡ true) × (room_for_rows T before ≡ true) × Found T before after answer
-Numbering T before after (Refused r) = Unnumbered T before r × (after ≡ before)
+abbrev pub Numbering : Table → RowLists → RowLists → Result ℕ Refusal → Type 0
+Numbering T before after (Ok answer) = (is_plan T ≡ true) × (room_for_rows T before ≡ true) × Found T before after answer
+Numbering T before after (Err r) = Unnumbered T before r × (after ≡ before)

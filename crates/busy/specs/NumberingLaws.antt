@@ -1,12 +1,13 @@
 -- From what the parts promise to the outcome of the whole.
-use Rattle.std.specs.Prelude.{◌≡◌, Bool, true, false, not, List, ℕ, ◌+◌, ◌≤◌, ◌<◌, length}
+use Rattle.std.specs.Prelude.{◌≡◌, Bool, true, false, not, List, ℕ, ◌+◌, ◌≤◌, ◌<◌, length, Err, Ok}
 use Rattle.std.proofs.Math.Path.{refl}
 use Rattle.std.proofs.Common.{ap, sym, ◌∙◌, arith, add-one}
 use Rattle.std.proofs.lemmas.Bool.{not-true, not-false}
 use Rattle.facts.specs.Filled.{filled}
 use Rattle.facts.specs.FilledLaws.{get_d_filled, length_filled}
+use Rattle.table.specs.declared.refusal.Refusal.{Refusal}
 use Rattle.table.specs.declared.refusal.Refusal.TheVariants.{NotAPlan, NoBusyLength, TooShort}
-use Rattle.table.specs.Table.{Table, table_of, at, rows, long_enough, is_plan}
+use Rattle.table.specs.Table.{Table, at, rows, long_enough, is_plan}
 use Rattle.table.specs.TableLaws.{Checked, checked}
 use Rattle.table.specs.Plan.{Plan, plan_of, cost}
 use Rattle.table.specs.PlanLaws.{right_of, small_of}
@@ -15,13 +16,12 @@ use Rattle.equations.specs.BesideLaws.{SameRows, row_same}
 use Rattle.busy.specs.Busy.{Numbers, Analysis}
 use Rattle.busy.specs.Numbering.{RowLists, room_for_rows, rows_filled_in, Found, Unnumbered, no_plan, too_short, no_busy_length}
 use Rattle.busy.specs.Climb.{Zeros}
-use Rattle.busy.specs.Level.{plan_by, Usable, Analysed}
+use Rattle.busy.specs.Level.{plan_seen, Usable, Analysed}
+use Rattle.planned.specs.View.{Viewed, viewed}
 use Rattle.busy.specs.Rows.{Viewing, plan, none, numbers_of}
+use Rattle.busy.specs.RowsLaws.{Seen, seen, unseen, viewed_seen}
 
-module _ (processors tasks : ℕ) (period deadline steps processor priority time : List ℕ) where
-  abbrev T : Table
-  T = table_of processors tasks period deadline steps processor priority time
-
+module _ (T : Table) where
   -- No rows are seen where the table is no plan.
   pub refusing_no_plan : {before after : List ℕ} {n : ℕ} → Viewing T before after n → n ≡ 0 → (l : RowLists) → Unnumbered T l NotAPlan
   unfolding plan_of
@@ -32,13 +32,14 @@ module _ (processors tasks : ℕ) (period deadline steps processor priority time
   pub record Ready (periods : List ℕ) (n : ℕ) : Type 0 where
     pub plan : is_plan T ≡ true
     pub count : n ≡ rows T
-    pub usable : Usable n periods processor priority time
-    pub same : SameRows (plan_by n periods processor priority time) (plan_of T)
+    pub usable : Usable n periods T.processor T.priority T.time
+    pub same : SameRows (plan_seen n periods T) (plan_of T)
 
-  pub ready : {before after : List ℕ} {n : ℕ} → length before ≡ 128 → Viewing T before after n → (n ≡ 0 → ⊥) → Ready after n
+  ready_made :
+      (before : List ℕ) {after : List ℕ} {n : ℕ} → length before ≡ 128 → is_plan T ≡ true → n ≡ rows T → after ≡ filled (plan_of T).period (rows T) before
+      → Ready after n
   unfolding plan_of cost
-  ready size (none t e) ne = absurd (ne e)
-  ready {before} {after} {n} size (plan t e p) ne = record { plan = t; count = e; usable = usable; same = same }
+  ready_made before {after} {n} size t e p = record { plan = t; count = e; usable = usable; same = same }
     where
       ok : Checked T
       ok = checked T t
@@ -49,7 +50,7 @@ module _ (processors tasks : ℕ) (period deadline steps processor priority time
       read : (r : ℕ) → r < n → at after r ≡ (plan_of T).period r
       read r l = rw p (get_d_filled (plan_of T).period (rows T) r 0 before (omega arith))
 
-      usable : Usable n after processor priority time
+      usable : Usable n after T.processor T.priority T.time
       usable = record {
         few = omega (arith, ok.rows_most);
         periods = let long' : length after ≡ length before = rw p (length_filled (plan_of T).period (rows T) before long) in omega (arith, long);
@@ -62,12 +63,33 @@ module _ (processors tasks : ℕ) (period deadline steps processor priority time
         time_most = λ r l. (ok.row r (omega arith)).time_most;
       }
 
-      same : SameRows (plan_by n after processor priority time) (plan_of T)
+      same : SameRows (plan_seen n after T) (plan_of T)
       same = record { rows = e; period = read; cost = λ r l. refl; processor = λ r l. refl; priority = λ r l. refl }
+
+  pub ready : {before after : List ℕ} {n : ℕ} → length before ≡ 128 → Viewing T before after n → (n ≡ 0 → ⊥) → Ready after n
+  ready size (none t e) ne = absurd (ne e)
+  ready {before} size (plan t e p) ne = ready_made before size t e p
+
+  -- What viewing the table's rows into lists of 128 entries says: they are ready,
+  module _ (period : List ℕ) (first : List Bool) (zp : length period ≡ 128) (zf : length first ≡ 128) {v : Viewed} (e : v ≡ viewed T period first) where
+    pub viewed_ready : {n : ℕ} → v.answer ≡ Ok n → Ready v.period n
+    viewed_ready {n} a = go (viewed_seen T period first zp zf v e)
+      where
+        go : Seen T period v → Ready v.period n
+        go (seen t b p) = ready_made _ zp t (let same : Ok n ≡ Ok (rows T) = sym a ∙ b in cc) p
+        go (unseen t b) = let z : ◌≡◌ {A = ℕ} 0 1 = cc in absurd (omega arith)
+
+    -- or the table is no plan.
+    pub viewed_refused : {r : Refusal} → v.answer ≡ Err r → (l : RowLists) → Unnumbered T l r
+    viewed_refused {r} a l = go (viewed_seen T period first zp zf v e)
+      where
+        go : Seen T period v → Unnumbered T l r
+        go (seen t b p) = let z : ◌≡◌ {A = ℕ} 0 1 = cc in absurd (omega arith)
+        go (unseen t b) = no_plan (let same : Err r ≡ Err NotAPlan = sym a ∙ b in cc) t
 
   module _ {periods : List ℕ} {n : ℕ} (q : Ready periods n) where
     abbrev P : Plan
-    P = plan_by n periods processor priority time
+    P = plan_seen n periods T
 
     ok : Checked T
     ok = checked T q.plan
@@ -120,33 +142,29 @@ module _ (processors tasks : ℕ) (period deadline steps processor priority time
         says = q.count;
       }
 
-  -- What the whole answers, from what its parts answered: n rows were seen, and x says whether the lists are long enough.
-  module _ {before after : List ℕ} {n : ℕ} (size : length before ≡ 128) (v : Viewing T before after n) (some : n ≡ 0 → ⊥) where
-    seen : Ready after n
-    seen = ready size v some
+    -- What the whole answers: x says whether the lists are long enough.
+    module _ (l : RowLists) {x : Bool} (e : x ≡ long_enough n l.busy l.instances l.bound) where
+      pub answer_short : not x ≡ true → Unnumbered T l (TooShort n)
+      answer_short t = refusing_room l (room_is l false (sym e ∙ not-true x t))
 
+      pub answer_stuck :
+          not x ≡ false → {busy instances bound : List ℕ} {done : ℕ} → Analysed P busy instances bound done → done < n
+          → Unnumbered T l (NoBusyLength (done + 1))
+      answer_stuck t a h = refusing_stuck l (room_is l true (sym e ∙ not-false x t)) a h
+
+      pub answer_found :
+          not x ≡ false → {busy instances bound : List ℕ} {done : ℕ} → Analysed P busy instances bound done → n ≤ done → {l' : RowLists}
+          → (l'.busy ≡ filled (at busy) n l.busy) × (l'.instances ≡ filled (at instances) n l.instances) × (l'.bound ≡ filled (at bound) n l.bound)
+          → (is_plan T ≡ true) × (room_for_rows T l ≡ true) × Found T l l' n
+      answer_found t a all f = (q.plan, room_is l true (sym e ∙ not-false x t), found a all f.0 f.1 f.2)
+
+  -- What the rows that were seen leave to the lists for their numbers.
+  module _ {before after : List ℕ} {n : ℕ} (size : length before ≡ 128) (v : Viewing T before after n) (some : n ≡ 0 → ⊥) where
     pub seen_fits : {a b c : ℕ} → a ≡ 128 → b ≡ 128 → c ≡ 128 → (n ≤ a) × (n ≤ b) × (n ≤ c)
-    seen_fits ea eb ec = let few : n ≤ 128 = seen.usable.few in (omega arith, omega arith, omega arith)
+    seen_fits ea eb ec = let few : n ≤ 128 = (ready size v some).usable.few in (omega arith, omega arith, omega arith)
 
     pub seen_usable :
         {busy instances bound : List ℕ} → Zeros busy → Zeros instances → Zeros bound
-        → Usable n after processor priority time
+        → Usable n after T.processor T.priority T.time
         × ((n ≤ length busy) × (n ≤ length instances) × (n ≤ length bound) × ((k : ℕ) → k < n → at busy k ≡ 0))
-    seen_usable z i b = let fit = seen_fits z.size i.size b.size in (seen.usable, (fit.0, fit.1, fit.2, λ k h. z.zero k))
-
-    module _ (l : RowLists) {x : Bool} (e : x ≡ long_enough n l.busy l.instances l.bound) where
-      pub answer_short : not x ≡ true → Unnumbered T l (TooShort n)
-      answer_short t = refusing_room seen l (room_is seen l false (sym e ∙ not-true x t))
-
-      pub answer_stuck :
-          not x ≡ false → {busy instances bound : List ℕ} {done : ℕ} → Analysed (plan_by n after processor priority time) busy instances bound done
-          → done < n → Unnumbered T l (NoBusyLength (done + 1))
-      answer_stuck t a h = refusing_stuck seen l (room_is seen l true (sym e ∙ not-false x t)) a h
-
-      pub answer_found :
-          not x ≡ false → {busy instances bound : List ℕ} {done : ℕ} → Analysed (plan_by n after processor priority time) busy instances bound done
-          → n ≤ done → {l' : RowLists}
-          → (l'.busy ≡ filled (at busy) n l.busy) × (l'.instances ≡ filled (at instances) n l.instances) × (l'.bound ≡ filled (at bound) n l.bound)
-          → (is_plan T ≡ true) × (room_for_rows T l ≡ true) × Found T l l' n
-      answer_found t a all f =
-          (seen.plan, room_is seen l true (sym e ∙ not-false x t), found seen a all f.0 f.1 f.2)
+    seen_usable z i b = let fit = seen_fits z.size i.size b.size in ((ready size v some).usable, (fit.0, fit.1, fit.2, λ k h. z.zero k))

@@ -1,8 +1,7 @@
 -- What viewing a table's rows into lists of 128 entries comes to.
-use Rattle.std.specs.Prelude.{◌≡◌, refl, Bool, true, false, List, ℕ, leb, length}
+use Rattle.std.specs.Prelude.{◌≡◌, refl, Bool, true, false, List, ℕ, leb, length, Err, Ok}
 use Rattle.std.proofs.Common.{ap, sym, ◌∙◌, arith, le-leb}
 use Rattle.facts.specs.Filled.{filled}
-use Rattle.planned.specs.declared.plan.View.TheVariants.{Rows, Refused}
 use Rattle.table.specs.declared.refusal.Refusal.{Refusal}
 use Rattle.table.specs.declared.refusal.Refusal.TheVariants.{NotAPlan}
 use Rattle.table.specs.Table.{Table, rows, is_plan}
@@ -13,8 +12,8 @@ use Rattle.busy.specs.Rows.{Viewing, plan, none}
 
 -- The answer's rows, and with them the filled periods; or the refusal.
 pub data Seen (T : Table) (before : List ℕ) (v : Viewed) : Type 0 where
-  seen : is_plan T ≡ true → v.answer ≡ Rows (rows T) → v.period ≡ filled (plan_of T).period (rows T) before → Seen T before v
-  unseen : is_plan T ≡ false → v.answer ≡ Refused NotAPlan → Seen T before v
+  seen : is_plan T ≡ true → v.answer ≡ Ok (rows T) → v.period ≡ filled (plan_of T).period (rows T) before → Seen T before v
+  unseen : is_plan T ≡ false → v.answer ≡ Err NotAPlan → Seen T before v
 
 pub viewed_seen :
     (T : Table) (period : List ℕ) (first : List Bool) → length period ≡ 128 → length first ≡ 128 → (v : Viewed) → v ≡ viewed T period first
@@ -34,15 +33,15 @@ module _
     (T : Table) (period : List ℕ) (first : List Bool) (zp : length period ≡ 128) (zf : length first ≡ 128)
     {v : Viewed} (e : v ≡ viewed T period first) where
   -- Rows are answered: they are the plan's.
-  pub viewing_rows : (n : ℕ) → v.answer ≡ Rows n → Viewing T period v.period n
+  pub viewing_rows : (n : ℕ) → v.answer ≡ Ok n → Viewing T period v.period n
   viewing_rows n a = go (viewed_seen T period first zp zf v e)
     where
       go : Seen T period v → Viewing T period v.period n
-      go (seen t b p) = plan t (let same : Rows n ≡ Rows (rows T) = sym a ∙ b in cc) p
+      go (seen t b p) = plan t (let same : Ok n ≡ Ok (rows T) = sym a ∙ b in cc) p
       go (unseen t b) = let z : ◌≡◌ {A = ℕ} 0 1 = cc in absurd (omega arith)
 
   -- A refusal is answered: it is no plan.
-  pub viewing_none : (r : Refusal) → v.answer ≡ Refused r → Viewing T period v.period 0
+  pub viewing_none : (r : Refusal) → v.answer ≡ Err r → Viewing T period v.period 0
   viewing_none r a = go (viewed_seen T period first zp zf v e)
     where
       go : Seen T period v → Viewing T period v.period 0

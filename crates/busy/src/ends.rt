@@ -1,113 +1,87 @@
 // The ends of the instances of tied rows, and with them the rows' bounds.
 
-ghost use Rattle.std.specs.Prelude.{◌≡◌, ℕ, max, min, ◌-◌, ◌≤◌, ◌<◌, length};
+ghost use Rattle.std.specs.Prelude.{◌≡◌, ℕ, max, ◌-◌, ◌≤◌, ◌<◌};
 ghost use Rattle.facts.specs.Filled.{filled};
 ghost use Rattle.facts.specs.Least.{Least};
-ghost use Rattle.facts.specs.Rounding.{ceil};
-ghost use Rattle.equations.specs.Row.{Greatest};
 ghost use Rattle.table.specs.Table.{at};
-ghost use Rattle.busy.specs.Climb.{Ranged, Settled, Sought, gathered_row, work_of};
+ghost use Rattle.busy.specs.Climb.{Settled, Sought};
+ghost use Rattle.busy.specs.Level.{TiedBounds, level_work};
+ghost use Rattle.busy.specs.Held.{level_in};
 
-use crate::level::{advance, begin_work};
+use crate::clock::Clock;
+use crate::level::Level;
 
-fn greater(a: u64, b: u64) -> u64
-    ensures { result ≡ max a b }
-{
-    if a < b {
-        return b;
-    }
-    a
+// Of each tied row, when the instance that is sought begins, and the greatest bound of those before it: lists in parallel,
+// since most turns of the clock read neither.
+#[derive(Drop)]
+pub(crate) struct Ends {
+    pub(crate) begin: [u64; 128],
+    pub(crate) best: [u64; 128],
 }
 
-fn lesser(a: u64, b: u64) -> u64
-    ensures { result ≡ min a b }
-{
-    if a < b {
-        return a;
-    }
-    b
-}
-
-// Of each tied row one instance is sought: it ends where all work is done but that of the row's own later instances. One
-// that ends at t has its bound, and the row's next is sought. Answers a clock after t before which none of them ends.
-fn settle(
-    tied: usize,
-    t: u64,
-    work: u64,
-    period: &[u64],
-    cost: &[u64],
-    later: &mut [u64],
-    begin: &mut [u64],
-    best: &mut [u64],
-) -> u64
-    requires ranged { Ranged tied period.now cost.now × (t ≤ 10000000) × Sought tied t work cost.now later.old begin.old }
-    requires tied_in_bounds { (tied ≤ length later.old) × (tied ≤ length begin.old) × (tied ≤ length best.old) }
-    ensures { Settled tied t work period.now cost.now later.old begin.old best.old later.new begin.new best.new result }
-{
-    let mut next = work;
-    let mut i: usize = 0;
-    while i < tied {
-        if work - later[i] == t {
-            best[i] = greater(best[i], t - begin[i]);
-            begin[i] = begin[i] + period[i];
-            later[i] = later[i] - cost[i];
+impl Ends {
+    pub(crate) fn new() -> Ends {
+        Ends {
+            begin: [0; 128],
+            best: [0; 128],
         }
-        next = lesser(next, work - later[i]);
-        i += 1;
     }
-    next
-}
 
-// The last instance of each tied row ends with the busy length.
-fn settle_last(tied: usize, span: u64, begin: &[u64], best: &mut [u64])
-    requires { (tied ≤ length begin.now) × (tied ≤ length best.old) × ((i : ℕ) → i < tied → at begin.now i ≤ span) }
-    ensures { best.new ≡ filled (λ i. max (at best.old i) (span - at begin.now i)) tied best.old }
-{
-    let mut i: usize = 0;
-    while i < tied {
-        best[i] = greater(best[i], span - begin[i]);
-        i += 1;
-    }
-}
-
-// The first instance of each tied row is sought: it begins at 0, and there is no bound yet. Periods are 1 or more: the test
-// is there for speed, as in `begin_work`.
-fn seek_first(tied: usize, period: &[u64], begin: &mut [u64], best: &mut [u64])
-    requires { (tied ≤ length period.now) × (tied ≤ length begin.old) × (tied ≤ length best.old) × ((i : ℕ) → i < tied → 0 < at period.now i) }
-    ensures { (begin.new ≡ filled (λ i. 0) tied begin.old) × (best.new ≡ filled (λ i. 0) tied best.old) }
-{
-    let mut i: usize = 0;
-    while i < tied {
-        if 0 < period[i] {
-            begin[i] = 0;
-            best[i] = 0;
+    // Of each tied row one instance is sought: it ends where all work is done but that of the row's own later instances. One
+    // that ends at t has its bound, and the row's next is sought. Answers a clock after t before which none of them ends.
+    fn settle(&mut self, level: &Level, t: u64, work: u64, later: &mut [u64; 128]) -> u64
+        requires within { t ≤ 10000000 }
+        requires sought { Sought level.now.tied t work level.now.cost later.old self.old.begin }
+        ensures { Settled level.now.tied t work level.now.period level.now.cost later.old self.old.begin self.old.best later.new self.new.begin self.new.best result }
+    {
+        let mut next = work;
+        for i in 0..level.tied {
+            if work - later[i] == t {
+                self.best[i] = self.best[i].max(t - self.begin[i]);
+                self.begin[i] += level.period[i];
+                later[i] -= level.cost[i];
+            }
+            next = next.min(work - later[i]);
         }
-        i += 1;
+        next
     }
-}
 
-// The clock climbs to the busy length, `span`, past every end of an instance of a tied row: `best` has their bounds.
-pub(crate) fn end_instances(
-    tied: usize,
-    count: usize,
-    span: u64,
-    period: &[u64],
-    cost: &[u64],
-    due: &mut [u64],
-    later: &mut [u64],
-    begin: &mut [u64],
-    best: &mut [u64],
-)
-    requires ranged { Ranged count period.now cost.now × (tied ≤ count) × (0 < count) × Least (work_of count period.now cost.now) span × (span ≤ 10000000) }
-    requires count_in_bounds { (count ≤ length due.old) × (count ≤ length later.old) × (tied ≤ length begin.old) × (tied ≤ length best.old) }
-    ensures { (i : ℕ) → i < tied → Greatest (gathered_row count period.now cost.now i) (ceil span (at period.now i)) (at best.new i) }
-{
-    seek_first(tied, period, begin, best);
-    let mut t: u64 = 1;
-    let mut work = begin_work(count, period, cost, due, later);
-    while t < span {
-        t = settle(tied, t, work, period, cost, later, begin, best);
-        work += advance(count, t, period, cost, due, later);
+    // The last instance of each tied row ends with the busy length.
+    fn settle_last(&mut self, level: &Level, span: u64)
+        requires { (i : ℕ) → i < level.now.tied → at self.old.begin i ≤ span }
+        ensures { self.new.best ≡ filled (λ i. max (at self.old.best i) (span - at self.old.begin i)) level.now.tied self.old.best }
+    {
+        for i in 0..level.tied {
+            self.best[i] = self.best[i].max(span - self.begin[i]);
+        }
     }
-    settle_last(tied, span, begin, best);
+
+    // The first instance of each tied row is sought: it begins at 0, and there is no bound yet. Periods are 1 or more: the
+    // test is there for speed, as in `Clock::start`.
+    fn seek_first(&mut self, level: &Level)
+        ensures { (self.new.begin ≡ filled (λ i. 0) level.now.tied self.old.begin) × (self.new.best ≡ filled (λ i. 0) level.now.tied self.old.best) }
+    {
+        for i in 0..level.tied {
+            if 0 < level.period[i] {
+                self.begin[i] = 0;
+                self.best[i] = 0;
+            }
+        }
+    }
+
+    // The clock climbs to the busy length, `span`, past every end of an instance of a tied row: `best` has their bounds.
+    pub(crate) fn find(&mut self, level: &Level, span: u64, clock: &mut Clock)
+        requires any { 0 < level.now.count }
+        requires busy { Least (level_work (level_in level.now)) span × (span ≤ 10000000) }
+        ensures { TiedBounds (level_in level.now) span self.new.best }
+    {
+        self.seek_first(level);
+        let mut t: u64 = 1;
+        let mut work = clock.start(level);
+        while t < span {
+            t = self.settle(level, t, work, &mut clock.later);
+            work += clock.advance(level, t);
+        }
+        self.settle_last(level, span);
+    }
 }

@@ -1,116 +1,47 @@
 // The numbers of a plan's rows (document 01, "Bounds"): busy length, instances and bound of each. `row_bounds` is all that
-// is public.
+// is public, with the lists that it fills.
 
 #![tactic(auto)]
 
+mod clock;
 mod ends;
 mod level;
+pub mod lists;
+mod numbers;
 mod rows;
 
-ghost use Rattle.std.specs.Prelude.{◌≡◌, ℕ, ◌≤◌, length};
-ghost use Rattle.table.specs.Table.{table_of};
-ghost use Rattle.busy.specs.Numbering.{Numbering, row_lists_of};
-ghost use Rattle.busy.specs.Rows.{Viewing};
+ghost use Rattle.std.specs.Prelude.{◌≡◌};
+ghost use Rattle.busy.specs.Numbering.{Numbering};
+ghost use Rattle.busy.specs.Held.{names_in, row_lists_in};
 
-use crate::level::zeros;
-use crate::rows::{fill_rows, row_numbers};
-use planned::plan::{View, long_enough, view_rows};
+use crate::lists::RowLists;
+use crate::numbers::Numbers;
+use crate::rows::Rows;
+use planned::rows::view_rows;
 use table::refusal::Refusal;
+use table::view::TableView;
 
-// What numbering the rows answers.
-#[derive(Clone, Copy)]
-pub enum Numbered {
-    // How many rows there are.
-    Rows(u64),
-    Refused(Refusal),
-}
-
-// How many rows the table's plan has, each row's period in `periods`; 0 if the table is no plan.
-fn rows_of(
-    processors: u64,
-    tasks: u64,
-    period: &[u64],
-    deadline: &[u64],
-    steps: &[u64],
-    processor: &[u64],
-    priority: &[u64],
-    time: &[u64],
-    periods: &mut [u64],
-) -> u64
-    requires { length periods.old ≡ 128 }
-    ensures { Viewing (table_of processors tasks period.now deadline.now steps.now processor.now priority.now time.now) periods.old periods.new result }
+// Fills busy length, instances and bound for each row of the table's plan. A refusal leaves the lists as they are: the
+// numbers are found in lists made here, and copied once every row has its own.
+pub fn row_bounds<T: TableView>(table: &T, out: &mut RowLists<'_>) -> Result<u64, Refusal>
+    ensures same_place { names_in out.new ≡ names_in out.old }
+    ensures outcome { Numbering (T.table table.now) (row_lists_in out.old) (row_lists_in out.new) result }
 {
+    // Two lists side by side: `view_rows` fills the two that its contract names.
+    let mut periods = [0u64; 128];
     let mut firsts = [false; 128];
-    let viewed = view_rows(
-        processors,
-        tasks,
-        period,
-        deadline,
-        steps,
-        processor,
-        priority,
-        time,
-        periods,
-        &mut firsts,
-    );
-    let View::Rows(rows) = viewed else {
-        return 0;
-    };
-    rows
-}
-
-// Fills busy length, instances and bound for each row of the plan in the first eight lists and counts. A refusal leaves the
-// lists as they are: the numbers are found in lists made here, and copied once every row has its own.
-pub fn row_bounds(
-    processors: u64,
-    tasks: u64,
-    period: &[u64],
-    deadline: &[u64],
-    steps: &[u64],
-    processor: &[u64],
-    priority: &[u64],
-    time: &[u64],
-    busy: &mut [u64],
-    instances: &mut [u64],
-    bounds: &mut [u64],
-) -> Numbered
-    ensures { Numbering (table_of processors tasks period.now deadline.now steps.now processor.now priority.now time.now) (row_lists_of busy.old instances.old bounds.old) (row_lists_of busy.new instances.new bounds.new) result }
-{
-    let mut periods = zeros();
-    let rows = rows_of(
-        processors,
-        tasks,
-        period,
-        deadline,
-        steps,
-        processor,
-        priority,
-        time,
-        &mut periods,
-    );
-    if rows == 0 {
-        return Numbered::Refused(Refusal::NotAPlan);
+    let answer = view_rows(table, &mut periods, &mut firsts)?;
+    let count = answer as usize;
+    if !out.hold(count) {
+        return Err(Refusal::TooShort(answer));
     }
-    let count = rows as usize;
-    if !long_enough(count, busy, instances, bounds) {
-        return Numbered::Refused(Refusal::TooShort(rows));
-    }
-    let mut spans = zeros();
-    let mut counts = zeros();
-    let mut worst = zeros();
-    let done = row_numbers(
+    let rows = Rows {
+        table,
         count,
-        &periods,
-        processor,
-        priority,
-        time,
-        &mut spans,
-        &mut counts,
-        &mut worst,
-    );
-    if done < count {
-        return Numbered::Refused(Refusal::NoBusyLength(done as u64 + 1));
-    }
-    fill_rows(count, &spans, &counts, &worst, busy, instances, bounds);
-    Numbered::Rows(rows)
+        periods: &periods,
+    };
+    let mut numbers = Numbers::none();
+    numbers.solve_all(&rows)?;
+    out.fill(count, &numbers);
+    Ok(answer)
 }

@@ -1,8 +1,9 @@
-// The calls on a table by value and a state by value.
+// The calls on a state by value, and on one kept state that each updates, of whatever holds the table. The lists of a state have room for any
+// plan's rows, so that none is refused as too short.
 
 #![tactic(auto)]
 
 pub mod arrive;
+pub mod by_value;
 pub mod fresh;
-mod outcome;
 pub mod tick;

@@ -1,72 +1,51 @@
 // The files of the cases.
 
-ghost use Rattle.io.specs.Counts.{IsPrefixLen};
+use arrayvec::ArrayString;
+use std::fmt::{Error, Write};
 
-use text::{append, append_line};
+// Room for one byte more than a file may have.
+pub(crate) type File = ArrayString<8193>;
 
-// Appends the first lines of a plan of one task and one row, and answers where they end.
-pub(crate) fn small_plan(out: &mut [u8], lines: usize) -> usize {
-    append_front(
-        out,
-        b"plan=1\nprocessors=1\ntasks=1\ntask=1\nperiod=10\ndeadline=0\nsteps=1\nprocessor=1\npriority=1\ntime=1\n",
-        lines,
-    )
-}
+// A plan of one task and one row.
+const SMALL: &str =
+    "plan=1\nprocessors=1\ntasks=1\ntask=1\nperiod=10\ndeadline=0\nsteps=1\nprocessor=1\npriority=1\ntime=1\n";
 
-// Appends the first lines of a text.
-fn append_front(out: &mut [u8], text: &[u8], lines: usize) -> usize {
-    let front = behind(text, lines);
-    append(out, 0, &text[..front])
-}
-
-// Where so many lines end.
-fn behind(text: &[u8], lines: usize) -> usize
-    ensures { IsPrefixLen result text.now }
-{
-    let mut left = lines;
-    let mut i = 0;
-    while i < text.len() {
-        if left == 0 {
-            return i;
-        }
-        if text[i] == b'\n' {
-            left -= 1;
-        }
-        i += 1;
+// The first lines of the small plan, with another text behind them.
+pub(crate) fn small_plan(lines: usize, tail: &str) -> Result<File, Error> {
+    let mut file = File::new();
+    for line in SMALL.lines().take(lines) {
+        write!(file, "{line}\n")?;
     }
-    i
+    file.write_str(tail)?;
+    Ok(file)
 }
 
-// Appends the first lines of a plan of so many tasks, with as many of its tasks as are given, of 16 rows each.
-pub(crate) fn full_tasks(out: &mut [u8], tasks: u64, given: u64) -> usize {
-    let mut end = append(out, 0, b"plan=1\nprocessors=1\n");
-    end = append_line(out, end, b"tasks", tasks);
-    let mut task: u64 = 0;
-    while task < given {
-        task += 1;
-        end = full_task(out, end, task);
+// The small plan with more bytes behind it, up to a length.
+pub(crate) fn long_plan(length: usize) -> Result<File, Error> {
+    let mut file = File::new();
+    file.write_str(SMALL)?;
+    for _ in file.len()..length {
+        file.write_str("x")?;
     }
-    end
+    Ok(file)
+}
+
+// A plan of so many tasks with as many of them as are given, of 16 rows each, and another text behind them.
+pub(crate) fn full_tasks(tasks: u64, given: u64, tail: &str) -> Result<File, Error> {
+    let mut file = File::new();
+    write!(file, "plan=1\nprocessors=1\ntasks={tasks}\n")?;
+    for task in 1..=given {
+        write_task(&mut file, task)?;
+    }
+    file.write_str(tail)?;
+    Ok(file)
 }
 
 // Appends the lines of a task of 16 rows.
-fn full_task(out: &mut [u8], at: usize, task: u64) -> usize {
-    let mut end = append_line(out, at, b"task", task);
-    end = append(out, end, b"period=100\ndeadline=0\nsteps=16\n");
-    let mut row: usize = 0;
-    while row < 16 {
-        end = append(out, end, b"processor=1\npriority=1\ntime=1\n");
-        row += 1;
+fn write_task(file: &mut File, task: u64) -> Result<(), Error> {
+    write!(file, "task={task}\nperiod=100\ndeadline=0\nsteps=16\n")?;
+    for _ in 0..16 {
+        file.write_str("processor=1\npriority=1\ntime=1\n")?;
     }
-    end
-}
-
-// The number, or the list's length if that is less.
-pub(crate) fn within(n: usize, list: &[u8]) -> usize
-    ensures { IsPrefixLen result list.now }
-{
-    if n < list.len() {
-        return n;
-    }
-    list.len()
+    Ok(())
 }

@@ -5,161 +5,194 @@
 #![tactic(auto)]
 
 mod build;
+mod sheet;
 mod show;
 mod tables;
 mod written;
 
-use build::{full_tasks, small_plan, within};
-use show::{show, show_short};
-use text::append;
+use build::{full_tasks, long_plan, small_plan};
+use sheet::Sheet;
+use show::{show, show_in};
+use std::fmt::Error;
 
-// A file of the first lines of a small plan with other bytes behind them.
-fn try_lines(rt: &HostRuntime, name: &[u8], lines: usize, tail: &[u8]) {
-    let mut file = [0u8; 256];
-    let front = small_plan(&mut file, lines);
-    let end = within(append(&mut file, front, tail), &file);
-    show(rt, name, &file[..end]);
+// A file of the first lines of a small plan with another text behind them.
+fn try_lines(rt: &HostRuntime, name: &str, lines: usize, tail: &str) -> Result<(), Error> {
+    let file = small_plan(lines, tail)?;
+    show(rt, name, file.as_str());
+    Ok(())
 }
 
-// A file of tasks with 16 rows each and other bytes behind them.
-fn try_tasks(rt: &HostRuntime, name: &[u8], tasks: u64, given: u64, tail: &[u8]) {
-    let mut file = [0u8; 8192];
-    let front = full_tasks(&mut file, tasks, given);
-    let end = within(append(&mut file, front, tail), &file);
-    show(rt, name, &file[..end]);
+// A file of tasks with 16 rows each and another text behind them.
+fn try_tasks(
+    rt: &HostRuntime,
+    name: &str,
+    tasks: u64,
+    given: u64,
+    tail: &str,
+) -> Result<(), Error> {
+    let file = full_tasks(tasks, given, tail)?;
+    show(rt, name, file.as_str());
+    Ok(())
 }
 
 // A small plan with other bytes behind it, up to a length.
-fn try_length(rt: &HostRuntime, name: &[u8], length: usize) {
-    let mut file = [120u8; 8193];
-    small_plan(&mut file, 10);
-    let end = within(length, &file);
-    show(rt, name, &file[..end]);
+fn try_length(rt: &HostRuntime, name: &str, length: usize) -> Result<(), Error> {
+    let file = long_plan(length)?;
+    show(rt, name, file.as_str());
+    Ok(())
 }
 
 // The plan that document 01 prints.
 fn printed_plan(rt: &HostRuntime) {
     show(
         rt,
-        b"document 01's plan",
-        b"plan=1\nprocessors=2\ntasks=3\ntask=1\nperiod=4\ndeadline=0\nsteps=1\nprocessor=1\npriority=2\ntime=2\ntask=2\nperiod=6\ndeadline=0\nsteps=2\nprocessor=1\npriority=1\ntime=2\nprocessor=2\npriority=2\ntime=2\ntask=3\nperiod=6\ndeadline=0\nsteps=1\nprocessor=2\npriority=1\ntime=3\n",
+        "document 01's plan",
+        "plan=1\nprocessors=2\ntasks=3\ntask=1\nperiod=4\ndeadline=0\nsteps=1\nprocessor=1\npriority=2\ntime=2\ntask=2\nperiod=6\ndeadline=0\nsteps=2\nprocessor=1\npriority=1\ntime=2\nprocessor=2\npriority=2\ntime=2\ntask=3\nperiod=6\ndeadline=0\nsteps=1\nprocessor=2\npriority=1\ntime=3\n",
     );
 }
 
 // The form of a file and of a line.
-fn forms(rt: &HostRuntime) {
-    try_lines(rt, b"whole", 10, b"");
-    try_lines(rt, b"empty", 0, b"");
-    try_lines(rt, b"ends early", 7, b"");
-    try_lines(rt, b"last LF missing", 9, b"time=1");
-    try_lines(rt, b"last LF missing, out of range", 9, b"time=0");
-    try_lines(rt, b"a byte behind", 10, b"\n");
-    try_lines(rt, b"a line behind", 10, b"task=2\n");
-    try_lines(rt, b"CR LF", 0, b"plan=1\r\n");
-    try_lines(rt, b"two LFs", 1, b"\n");
-    try_lines(rt, b"blank before the value", 4, b"period= 4\n");
-    try_lines(rt, b"blank behind the value", 4, b"period=4 \n");
-    try_lines(rt, b"blank for the mark", 4, b"period 4\n");
-    try_lines(rt, b"key misspelt", 4, b"perion=4\n");
-    try_lines(rt, b"key in capitals", 4, b"Period=4\n");
-    try_lines(rt, b"key too long", 4, b"periods=4\n");
-    try_lines(rt, b"key out of order", 4, b"deadline=0\n");
+fn forms(rt: &HostRuntime) -> Result<(), Error> {
+    try_lines(rt, "whole", 10, "")?;
+    try_lines(rt, "empty", 0, "")?;
+    try_lines(rt, "ends early", 7, "")?;
+    try_lines(rt, "last LF missing", 9, "time=1")?;
+    try_lines(rt, "last LF missing, out of range", 9, "time=0")?;
+    try_lines(rt, "a byte behind", 10, "\n")?;
+    try_lines(rt, "a line behind", 10, "task=2\n")?;
+    try_lines(rt, "CR LF", 0, "plan=1\r\n")?;
+    try_lines(rt, "two LFs", 1, "\n")?;
+    try_lines(rt, "blank before the value", 4, "period= 4\n")?;
+    try_lines(rt, "blank behind the value", 4, "period=4 \n")?;
+    try_lines(rt, "blank for the mark", 4, "period 4\n")?;
+    try_lines(rt, "key misspelt", 4, "perion=4\n")?;
+    try_lines(rt, "key in capitals", 4, "Period=4\n")?;
+    try_lines(rt, "key too long", 4, "periods=4\n")?;
+    try_lines(rt, "key out of order", 4, "deadline=0\n")?;
+    Ok(())
 }
 
 // The form of a value.
-fn values(rt: &HostRuntime) {
-    try_lines(rt, b"no value", 4, b"period=\n");
-    try_lines(rt, b"plus", 4, b"period=+4\n");
-    try_lines(rt, b"minus", 4, b"period=-4\n");
-    try_lines(rt, b"a letter", 4, b"period=4a\n");
-    try_lines(rt, b"leading zero", 4, b"period=04\n");
-    try_lines(rt, b"two zeros", 5, b"deadline=00\n");
+fn values(rt: &HostRuntime) -> Result<(), Error> {
+    try_lines(rt, "no value", 4, "period=\n")?;
+    try_lines(rt, "plus", 4, "period=+4\n")?;
+    try_lines(rt, "minus", 4, "period=-4\n")?;
+    try_lines(rt, "a letter", 4, "period=4a\n")?;
+    try_lines(rt, "leading zero", 4, "period=04\n")?;
+    try_lines(rt, "two zeros", 5, "deadline=00\n")?;
     try_lines(
         rt,
-        b"nine digits, in range",
+        "nine digits, in range",
         5,
-        b"deadline=160000000\nsteps=1\nprocessor=1\npriority=1\ntime=1\n",
-    );
-    try_lines(rt, b"nine digits, out of range", 5, b"deadline=160000001\n");
-    try_lines(rt, b"ten digits", 5, b"deadline=1600000000\n");
+        "deadline=160000000\nsteps=1\nprocessor=1\npriority=1\ntime=1\n",
+    )?;
+    try_lines(rt, "nine digits, out of range", 5, "deadline=160000001\n")?;
+    try_lines(rt, "ten digits", 5, "deadline=1600000000\n")?;
     try_lines(
         rt,
-        b"lone zero, in range",
+        "lone zero, in range",
         5,
-        b"deadline=0\nsteps=1\nprocessor=1\npriority=1\ntime=1\n",
-    );
-    try_lines(rt, b"lone zero, out of range", 4, b"period=0\n");
+        "deadline=0\nsteps=1\nprocessor=1\npriority=1\ntime=1\n",
+    )?;
+    try_lines(rt, "lone zero, out of range", 4, "period=0\n")?;
+    Ok(())
 }
 
 // Ranges.
-fn ranges(rt: &HostRuntime) {
+fn ranges(rt: &HostRuntime) -> Result<(), Error> {
     show(
         rt,
-        b"all at least",
-        b"plan=1\nprocessors=1\ntasks=1\ntask=1\nperiod=1\ndeadline=0\nsteps=1\nprocessor=1\npriority=1\ntime=1\n",
+        "all at least",
+        "plan=1\nprocessors=1\ntasks=1\ntask=1\nperiod=1\ndeadline=0\nsteps=1\nprocessor=1\npriority=1\ntime=1\n",
     );
     show(
         rt,
-        b"all at most in one row",
-        b"plan=1\nprocessors=16\ntasks=1\ntask=1\nperiod=1000000\ndeadline=160000000\nsteps=1\nprocessor=16\npriority=255\ntime=1000000\n",
+        "all at most in one row",
+        "plan=1\nprocessors=16\ntasks=1\ntask=1\nperiod=1000000\ndeadline=160000000\nsteps=1\nprocessor=16\npriority=255\ntime=1000000\n",
     );
-    try_lines(rt, b"plan 2", 0, b"plan=2\n");
-    try_lines(rt, b"processors 17", 1, b"processors=17\n");
-    try_lines(rt, b"tasks 33", 2, b"tasks=33\n");
-    try_lines(rt, b"task not the next", 3, b"task=2\n");
-    try_lines(rt, b"period 1000001", 4, b"period=1000001\n");
-    try_lines(rt, b"steps 17", 6, b"steps=17\n");
-    try_lines(rt, b"processor above the plan's", 7, b"processor=2\n");
-    try_lines(rt, b"priority 256", 8, b"priority=256\n");
-    try_lines(rt, b"time out of range, last line", 9, b"time=1000001\n");
+    try_lines(rt, "plan 2", 0, "plan=2\n")?;
+    try_lines(rt, "processors 17", 1, "processors=17\n")?;
+    try_lines(rt, "tasks 33", 2, "tasks=33\n")?;
+    try_lines(rt, "task not the next", 3, "task=2\n")?;
+    try_lines(rt, "period 1000001", 4, "period=1000001\n")?;
+    try_lines(rt, "steps 17", 6, "steps=17\n")?;
+    try_lines(rt, "processor above the plan's", 7, "processor=2\n")?;
+    try_lines(rt, "priority 256", 8, "priority=256\n")?;
+    try_lines(rt, "time out of range, last line", 9, "time=1000001\n")?;
+    Ok(())
 }
 
 // Rows and bytes in all.
-fn sizes(rt: &HostRuntime) {
-    try_tasks(rt, b"128 rows", 8, 8, b"");
+fn sizes(rt: &HostRuntime) -> Result<(), Error> {
+    try_tasks(rt, "128 rows", 8, 8, "")?;
     try_tasks(
         rt,
-        b"129 rows",
+        "129 rows",
         9,
         8,
-        b"task=9\nperiod=1\ndeadline=0\nsteps=1\n",
-    );
+        "task=9\nperiod=1\ndeadline=0\nsteps=1\n",
+    )?;
     try_tasks(
         rt,
-        b"129 rows, steps 17",
+        "129 rows, steps 17",
         9,
         8,
-        b"task=9\nperiod=1\ndeadline=0\nsteps=17\n",
-    );
+        "task=9\nperiod=1\ndeadline=0\nsteps=17\n",
+    )?;
     try_tasks(
         rt,
-        b"128 rows, no further steps line",
+        "128 rows, no further steps line",
         9,
         8,
-        b"task=9\nperiod=1\ndeadline=0\n",
-    );
-    try_length(rt, b"8192 bytes", 8192);
-    try_length(rt, b"8193 bytes", 8193);
+        "task=9\nperiod=1\ndeadline=0\n",
+    )?;
+    try_length(rt, "8192 bytes", 8192)?;
+    try_length(rt, "8193 bytes", 8193)?;
+    Ok(())
 }
 
-// Lists with room for so many tasks and rows.
-fn lists(rt: &HostRuntime) {
-    show_short(rt, b"room for 32 tasks and 128 rows", 32, 128);
-    show_short(rt, b"room for 32 tasks and 127 rows", 32, 127);
-    show_short(rt, b"room for 31 tasks and 128 rows", 31, 128);
-    show_short(rt, b"room for 31 tasks and 127 rows", 31, 127);
+// A small plan for lists with room for so many tasks and rows.
+fn lists(rt: &HostRuntime) -> Result<(), Error> {
+    let plan = small_plan(10, "")?;
+    let file = plan.as_str();
+    show_in(
+        rt,
+        "room for 32 tasks and 128 rows",
+        file,
+        &mut Sheet::<32, 128>::untouched(),
+    );
+    show_in(
+        rt,
+        "room for 32 tasks and 127 rows",
+        file,
+        &mut Sheet::<32, 127>::untouched(),
+    );
+    show_in(
+        rt,
+        "room for 31 tasks and 128 rows",
+        file,
+        &mut Sheet::<31, 128>::untouched(),
+    );
+    show_in(
+        rt,
+        "room for 31 tasks and 127 rows",
+        file,
+        &mut Sheet::<31, 127>::untouched(),
+    );
+    Ok(())
 }
 
-fn main(rt: HostRuntime) {
+fn main(rt: HostRuntime) -> Result<(), Error> {
     printed_plan(&rt);
-    forms(&rt);
-    values(&rt);
-    ranges(&rt);
-    sizes(&rt);
-    lists(&rt);
+    forms(&rt)?;
+    values(&rt)?;
+    ranges(&rt)?;
+    sizes(&rt)?;
+    lists(&rt)?;
     tables::plans(&rt);
     tables::spreads(&rt);
     tables::rooms(&rt);
     tables::no_plans(&rt);
     tables::short_lists(&rt);
+    Ok(())
 }

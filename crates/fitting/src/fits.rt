@@ -1,21 +1,24 @@
-// When a state fits a plan.
+// When a run state fits a plan's rows, of whatever holds the table and the state.
 
-ghost use Rattle.std.specs.Prelude.{◌≡◌, ◌≤◌, []};
-ghost use Rattle.table.specs.Table.{at};
-ghost use Rattle.table.specs.Refusals.{last_clock};
+ghost use Rattle.std.specs.Prelude.{◌≡◌, ◌+◌, ◌≤◌, leb, []};
 ghost use Rattle.facts.specs.Tests.{all};
 ghost use Rattle.guards.specs.Moment.{moment_of};
 ghost use Rattle.guards.specs.Fits.{row_fits};
-ghost use Rattle.guards.specs.Rows.{chain_fits, counts_fit, plan_from};
-ghost use Rattle.guards.specs.Lent.{Fitting, holds, rows_fit_in, stand, state_of};
+ghost use Rattle.guards.specs.Rows.{counts_fit, plan_from};
+ghost use Rattle.table.specs.Refusals.{last_clock};
+ghost use Rattle.guards.specs.InRows.{rows_of};
+ghost use Rattle.fitting.specs.Chains.{releases_fit};
+ghost use Rattle.guards.specs.Lent.{Fitting, rows_fit_in, stand};
 
+use guards::rows::PlanRows;
+use guards::run::StateView;
 use guards::state::LAST_CLOCK;
-
-// At most so many rows have their place in the lists.
-const MOST_ROWS: usize = 128;
+use table::limits::MOST_ROWS;
+use table::view::TableView;
 
 // Whether a row's instances and used ticks fit: completed ≤ released ≤ clock + 1, used < time, and used is 0 where
 // nothing is open.
+// `clock ≤ last_clock` is a clause: it bounds one number, and a struct of one field is no plainer.
 #[tactic(auto, unfolding(guards::specs::Rows::counts_fit))]
 fn counts_fit(clock: u64, released: u64, completed: u64, used: u64, time: u64) -> bool
     requires { clock ≤ last_clock }
@@ -36,18 +39,21 @@ fn counts_fit(clock: u64, released: u64, completed: u64, used: u64, time: u64) -
     used == 0
 }
 
-// Whether a row's guard and releases fit its place in its chain, given what the row before it has completed.
-#[tactic(auto, unfolding(guards::specs::Rows::chain_fits))]
-fn chain_fits(first: bool, clock: u64, period: u64, released: u64, guard: u64, before: u64) -> bool
-    requires { clock ≤ last_clock }
-    ensures { result ≡ chain_fits first clock period released guard before }
+// Whether a row's guard is at most a period ahead of the clock. Their sum need not fit, so their distance is compared.
+#[tactic(auto, using(crate::proofs::GuardTests::guard_ahead))]
+fn guard_fits(clock: u64, period: u64, guard: u64) -> bool
+    ensures { result ≡ leb guard (clock + period) }
 {
-    // The sum of clock and period need not fit, so their distance is compared.
-    if clock < guard {
-        if period < guard - clock {
-            return false;
-        }
-    }
+    guard.saturating_sub(clock) <= period
+}
+
+// Whether a row's releases fit its place in its chain, given what the row before it has completed.
+// `clock ≤ last_clock` is a clause: it bounds one number, and a struct of one field is no plainer.
+#[tactic(auto, unfolding(crate::specs::Chains::releases_fit))]
+fn releases_fit(first: bool, clock: u64, released: u64, guard: u64, before: u64) -> bool
+    requires { clock ≤ last_clock }
+    ensures { result ≡ releases_fit first clock released guard before }
+{
     if first {
         if released == clock + 1 {
             return clock < guard;
@@ -63,117 +69,65 @@ fn chain_fits(first: bool, clock: u64, period: u64, released: u64, guard: u64, b
     true
 }
 
-// Whether each of the four lists of a state has an entry for each row.
-#[tactic(auto, unfolding(guards::specs::Lent::holds))]
-pub fn lists_hold(
-    count: usize,
-    released: &[u64],
-    completed: &[u64],
-    used: &[u64],
-    guard: &[u64],
-) -> bool
-    ensures { result ≡ holds count released.now completed.now used.now guard.now }
-{
-    if released.len() < count {
-        return false;
-    }
-    if completed.len() < count {
-        return false;
-    }
-    if used.len() < count {
-        return false;
-    }
-    count <= guard.len()
-}
-
-// Whether each of the lists of a plan's rows has an entry for each of them.
+// Whether each of a plan's rows has its period, its time and whether it is first.
 #[tactic(auto, unfolding(guards::specs::Lent::stand))]
-fn rows_stand(count: usize, periods: &[u64], firsts: &[bool], time: &[u64]) -> bool
-    ensures { result ≡ stand count periods.now firsts.now time.now }
+fn rows_stand<T: TableView>(rows: &PlanRows<'_>, table: &T) -> bool
+    ensures { result ≡ stand rows.now.count rows.now.periods.now rows.now.firsts.now (T.table table.now).time }
 {
-    if MOST_ROWS < count {
+    if MOST_ROWS < rows.count as u64 {
         return false;
     }
-    if periods.len() < count {
+    if rows.periods.len() < rows.count {
         return false;
     }
-    if firsts.len() < count {
+    if rows.firsts.len() < rows.count {
         return false;
     }
-    count <= time.len()
+    table.times_held(rows.count)
 }
 
-fn first_of(list: &[u64]) -> u64
-    ensures { result ≡ at list.now 0 }
+// Whether each row fits, where all have their places.
+fn each_fits<T: TableView, S: StateView>(rows: &PlanRows<'_>, table: &T, state: &S) -> bool
+    requires { Fitting rows.now.count rows.now.periods.now rows.now.firsts.now (T.table table.now).time (S.state state.now) }
+    ensures { result ≡ all rows.now.count (row_fits (plan_from rows.now.count rows.now.periods.now rows.now.firsts.now [] [] (T.table table.now).time) (moment_of (S.state state.now))) }
 {
-    if list.len() == 0 {
-        return 0;
+    if rows.count == 0 {
+        return true;
     }
-    list[0]
-}
-
-// Whether each row of lists that are long enough fits.
-fn each_fits(
-    count: usize,
-    periods: &[u64],
-    firsts: &[bool],
-    time: &[u64],
-    clock: u64,
-    released: &[u64],
-    completed: &[u64],
-    used: &[u64],
-    guard: &[u64],
-) -> bool
-    requires { Fitting count periods.now firsts.now time.now (state_of clock released.now completed.now used.now guard.now) }
-    ensures { result ≡ all count (row_fits (plan_from count periods.now firsts.now [] [] time.now) (moment_of (state_of clock released.now completed.now used.now guard.now))) }
-{
-    let mut before = first_of(completed);
-    let mut row: usize = 0;
-    while row < count {
-        if !counts_fit(clock, released[row], completed[row], used[row], time[row]) {
+    let clock = state.clock();
+    // What the row before has completed stays at hand: read again at each row it takes half as long again.
+    let mut before = state.completed(0);
+    for row in 0..rows.count {
+        let released = state.released(row);
+        let completed = state.completed(row);
+        if !counts_fit(clock, released, completed, state.used(row), table.time(row)) {
             return false;
         }
-        if !chain_fits(
-            firsts[row],
-            clock,
-            periods[row],
-            released[row],
-            guard[row],
-            before,
-        ) {
+        let guard = state.guard(row);
+        if !guard_fits(clock, rows.periods[row], guard) {
             return false;
         }
-        before = completed[row];
-        row += 1;
+        if !releases_fit(rows.firsts[row], clock, released, guard, before) {
+            return false;
+        }
+        before = completed;
     }
     true
 }
 
-// Whether the rows stand in their lists and the state in the four others fits them.
+// Whether a plan's rows, so many, stand in their lists and the state fits them.
 #[tactic(auto, using(facts::specs::TestsLaws::and_false), unfolding(guards::specs::Lent::rows_fit_in, guards::specs::Rows::rows_fit, guards::specs::Fits::fits, guards::specs::Moment::moment_of))]
-pub fn rows_fit(
-    count: usize,
-    periods: &[u64],
-    firsts: &[bool],
-    time: &[u64],
-    clock: u64,
-    released: &[u64],
-    completed: &[u64],
-    used: &[u64],
-    guard: &[u64],
-) -> bool
-    ensures { result ≡ rows_fit_in (record { count = count; period = periods.now; first = firsts.now }) time.now (state_of clock released.now completed.now used.now guard.now) }
+pub fn rows_fit<T: TableView, S: StateView>(rows: &PlanRows<'_>, table: &T, state: &S) -> bool
+    ensures { result ≡ rows_fit_in (rows_of rows.now) (T.table table.now).time (S.state state.now) }
 {
-    if !rows_stand(count, periods, firsts, time) {
+    if !rows_stand(rows, table) {
         return false;
     }
-    if !lists_hold(count, released, completed, used, guard) {
+    if !state.rows_held(rows.count) {
         return false;
     }
-    if LAST_CLOCK < clock {
+    if LAST_CLOCK < state.clock() {
         return false;
     }
-    each_fits(
-        count, periods, firsts, time, clock, released, completed, used, guard,
-    )
+    each_fits(rows, table, state)
 }

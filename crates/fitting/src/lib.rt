@@ -1,4 +1,4 @@
-// When a run state in lent lists fits a plan.
+// When a run state fits a plan.
 
 #![tactic(auto)]
 

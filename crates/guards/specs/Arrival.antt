@@ -4,7 +4,7 @@ use Rattle.table.specs.Table.{at}
 use Rattle.table.specs.Refusals.{last_clock}
 use Rattle.table.specs.declared.refusal.Refusal.TheVariants.{TooSoon}
 use Rattle.guards.specs.declared.state.State.{State}
-use Rattle.guards.specs.declared.state.Outcome.{Outcome}
+use Rattle.guards.specs.Outcome.{Outcome}
 use Rattle.guards.specs.Calls.{refused, taken}
 
 -- An arrival's row has its place in the lists, and its numbers are small.

@@ -1,6 +1,6 @@
 -- The whole outcome of each call: the answer, the state and the release list as they then are (document 01, "Guards" and
 -- "Numbers that say no").
-use Rattle.std.specs.Prelude.{ℕ, suc, pred, ◌+◌, Bool, cond, not, ◌&&◌, ◌||◌, List, leb, ltb, eqb, length, get_or}
+use Rattle.std.specs.Prelude.{ℕ, suc, pred, ◌+◌, Bool, cond, not, ◌&&◌, ◌||◌, List, leb, ltb, eqb, length, get_or, Err, Ok}
 use Rattle.facts.specs.Tests.{lowest}
 use Rattle.facts.specs.Filled.{filled}
 use Rattle.table.specs.Table.{Table, first_row, rows, is_plan}
@@ -19,8 +19,7 @@ use Rattle.table.specs.declared.refusal.Refusal.TheVariants.{
   StateDoesNotFit,
 }
 use Rattle.guards.specs.declared.state.State.{State}
-use Rattle.guards.specs.declared.state.Answer.TheVariants.{Taken, Refused}
-use Rattle.guards.specs.declared.state.Outcome.{Outcome}
+use Rattle.guards.specs.Outcome.{Outcome}
 use Rattle.guards.specs.Moment.{Moment, moment_of, state_with}
 use Rattle.guards.specs.Running.{running}
 use Rattle.guards.specs.Machine.{start, arrived, before_release, due, ticked}
@@ -28,11 +27,11 @@ use Rattle.guards.specs.Fits.{fits}
 
 -- A call is refused, and the state stays.
 abbrev pub refused : Refusal → State → Outcome
-refused refusal σ = record { answer = Refused refusal; state = σ }
+refused refusal σ = record { answer = Err refusal; state = σ }
 
 -- A call is taken, with its answer and the state after it.
 abbrev pub taken : ℕ → State → Outcome
-taken answer σ = record { answer = Taken answer; state = σ }
+taken answer σ = record { answer = Ok answer; state = σ }
 
 -- Fresh start: 5; it sets the clock and the plan's rows to 0 and answers 0.
 unfoldable pub fresh_start : Table → State → Outcome

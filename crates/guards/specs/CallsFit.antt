@@ -7,7 +7,7 @@ use Rattle.table.specs.TableLaws.{checked}
 use Rattle.table.specs.Plan.{plan_of}
 use Rattle.table.specs.PlanLaws.{Right, right_of}
 use Rattle.guards.specs.declared.state.State.{State}
-use Rattle.guards.specs.declared.state.Outcome.{Outcome}
+use Rattle.guards.specs.Outcome.{Outcome}
 use Rattle.guards.specs.Moment.{Moment, moment_of, state_with}
 use Rattle.guards.specs.Machine.{start, arrived, ticked}
 use Rattle.guards.specs.Fits.{fits}

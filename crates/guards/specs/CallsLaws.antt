@@ -1,5 +1,5 @@
 -- Each call has one outcome for each input, and a refusal changes nothing.
-use Rattle.std.specs.Prelude.{ℕ, pred, ◌≡◌, refl, Bool, true, false, cond, not, ◌&&◌, List, ltb, eqb, length}
+use Rattle.std.specs.Prelude.{ℕ, pred, ◌≡◌, refl, Bool, true, false, cond, not, ◌&&◌, List, ltb, eqb, length, Err}
 use Rattle.std.proofs.Common.{sym, ◌∙◌, arith}
 use Rattle.facts.specs.Tests.{lowest}
 use Rattle.table.specs.Table.{Table, first_row, rows, is_plan}
@@ -7,8 +7,7 @@ use Rattle.table.specs.Plan.{plan_of}
 use Rattle.table.specs.Refusals.{last_clock}
 use Rattle.table.specs.declared.refusal.Refusal.{Refusal}
 use Rattle.guards.specs.declared.state.State.{State}
-use Rattle.guards.specs.declared.state.Answer.TheVariants.{Refused}
-use Rattle.guards.specs.declared.state.Outcome.{Outcome}
+use Rattle.guards.specs.Outcome.{Outcome}
 use Rattle.guards.specs.Rows.{Rows}
 use Rattle.guards.specs.Moment.{moment_of}
 use Rattle.guards.specs.Fits.{fits}
@@ -32,7 +31,7 @@ rows_fit_one R time σ a b = a ∙ sym b
 
 -- An outcome keeps the state σ where its answer is a refusal.
 record Keeps (σ : State) (o : Outcome) : Type 0 where
-  kept : (refusal : Refusal) → o.answer ≡ Refused refusal → o.state ≡ σ
+  kept : (refusal : Refusal) → o.answer ≡ Err refusal → o.state ≡ σ
 
 refused_keeps : (σ : State) (refusal : Refusal) → Keeps σ (refused refusal σ)
 refused_keeps σ refusal = record { kept = λ r e. refl }
@@ -48,7 +47,7 @@ fresh_start_all : (T : Table) (σ : State) → Keeps σ (fresh_start T σ)
 unfolding fresh_start
 fresh_start_all T σ = either_keeps (not (is_plan T)) (refused_keeps σ _) (taken_keeps σ _ _)
 
-pub fresh_start_keeps : (T : Table) (σ : State) (refusal : Refusal) → (fresh_start T σ).answer ≡ Refused refusal → (fresh_start T σ).state ≡ σ
+pub fresh_start_keeps : (T : Table) (σ : State) (refusal : Refusal) → (fresh_start T σ).answer ≡ Err refusal → (fresh_start T σ).state ≡ σ
 fresh_start_keeps T σ = (fresh_start_all T σ).kept
 
 arrive_all : (T : Table) (σ : State) (task : ℕ) → Keeps σ (arrive T σ task)
@@ -60,7 +59,7 @@ arrive_all T σ task =
     (either_keeps (ltb σ.clock ((moment_of σ).guard (first_row T (pred task)))) (refused_keeps σ _)
     (taken_keeps σ _ _))))
 
-pub arrive_keeps : (T : Table) (σ : State) (task : ℕ) (refusal : Refusal) → (arrive T σ task).answer ≡ Refused refusal → (arrive T σ task).state ≡ σ
+pub arrive_keeps : (T : Table) (σ : State) (task : ℕ) (refusal : Refusal) → (arrive T σ task).answer ≡ Err refusal → (arrive T σ task).state ≡ σ
 arrive_keeps T σ task = (arrive_all T σ task).kept
 
 -- On lent lists too.
@@ -71,12 +70,12 @@ lent_all T σ k =
 
 pub fresh_in_keeps :
     (T : Table) (σ : State) (refusal : Refusal)
-    → (on_lists T σ (fresh_start T σ)).answer ≡ Refused refusal → (on_lists T σ (fresh_start T σ)).state ≡ σ
+    → (on_lists T σ (fresh_start T σ)).answer ≡ Err refusal → (on_lists T σ (fresh_start T σ)).state ≡ σ
 fresh_in_keeps T σ = (lent_all T σ (fresh_start_all T σ)).kept
 
 pub arrive_in_keeps :
     (T : Table) (σ : State) (task : ℕ) (refusal : Refusal)
-    → (on_lists T σ (arrive T σ task)).answer ≡ Refused refusal → (on_lists T σ (arrive T σ task)).state ≡ σ
+    → (on_lists T σ (arrive T σ task)).answer ≡ Err refusal → (on_lists T σ (arrive T σ task)).state ≡ σ
 arrive_in_keeps T σ task = (lent_all T σ (arrive_all T σ task)).kept
 
 -- State and release list are as they were.
@@ -85,7 +84,7 @@ pub record Untouched (σ : State) (released : List ℕ) (o : TickOutcome) : Type
   pub list : o.released ≡ released
 
 record TickKeeps (σ : State) (released : List ℕ) (o : TickOutcome) : Type 0 where
-  kept : (refusal : Refusal) → o.outcome.answer ≡ Refused refusal → Untouched σ released o
+  kept : (refusal : Refusal) → o.outcome.answer ≡ Err refusal → Untouched σ released o
 
 module _ (σ : State) (released : List ℕ) where
   stays_keeps : (refusal : Refusal) → TickKeeps σ released (stays refusal σ released)
@@ -119,11 +118,11 @@ lent_tick_all T σ done released =
 
 pub tick_in_keeps :
     (T : Table) (σ : State) (done released : List ℕ) (refusal : Refusal)
-    → (tick_on_lists T σ released (tick T σ done released)).outcome.answer ≡ Refused refusal
+    → (tick_on_lists T σ released (tick T σ done released)).outcome.answer ≡ Err refusal
     → Untouched σ released (tick_on_lists T σ released (tick T σ done released))
 tick_in_keeps T σ done released = (lent_tick_all T σ done released).kept
 
 pub tick_keeps :
     (T : Table) (σ : State) (done released : List ℕ) (refusal : Refusal)
-    → (tick T σ done released).outcome.answer ≡ Refused refusal → Untouched σ released (tick T σ done released)
+    → (tick T σ done released).outcome.answer ≡ Err refusal → Untouched σ released (tick T σ done released)
 tick_keeps T σ done released = (tick_all T σ done released).kept

@@ -1,13 +1,12 @@
 -- A state in a clock and four lent lists, and what the calls come to on them.
-use Rattle.std.specs.Prelude.{ℕ, ◌≤◌, Bool, cond, not, ◌&&◌, List, leb, length}
+use Rattle.std.specs.Prelude.{ℕ, ◌≤◌, Bool, cond, not, ◌&&◌, List, leb, length, Err, Ok}
 use Rattle.table.specs.Table.{Table, rows, is_plan, most_rows}
 use Rattle.table.specs.Refusals.{last_clock}
 use Rattle.table.specs.declared.refusal.Refusal.{Refusal}
 use Rattle.table.specs.declared.refusal.Refusal.TheVariants.{StateDoesNotFit}
 use Rattle.guards.specs.declared.state.State.{State}
-use Rattle.guards.specs.declared.state.Answer.TheVariants.{Taken, Refused}
-use Rattle.guards.specs.declared.state.Outcome.{Outcome}
-use Rattle.guards.specs.declared.state.Called.{Called}
+use Rattle.guards.specs.Outcome.{Outcome}
+use Rattle.guards.specs.Outcome.{Called}
 use Rattle.guards.specs.Calls.{TickOutcome, refused, stays}
 use Rattle.guards.specs.Rows.{Rows, rows_fit}
 
@@ -23,10 +22,10 @@ state_of clock released completed used guard = record {
 
 -- A call is refused at a clock, or taken.
 abbrev pub refused_at : Refusal → ℕ → Called
-refused_at refusal clock = record { answer = Refused refusal; clock = clock }
+refused_at refusal clock = record { answer = Err refusal; clock = clock }
 
 abbrev pub taken_at : ℕ → ℕ → Called
-taken_at answer clock = record { answer = Taken answer; clock = clock }
+taken_at answer clock = record { answer = Ok answer; clock = clock }
 
 -- The outcome of a call that leaves these lists.
 abbrev pub outcome_of : Called → List ℕ → List ℕ → List ℕ → List ℕ → Outcome

@@ -10,8 +10,8 @@ use Rattle.table.specs.Plan.{plan_of}
 use Rattle.table.specs.declared.refusal.Refusal.{Refusal}
 use Rattle.table.specs.declared.refusal.Refusal.TheVariants.{NotAPlan, NoSuchTask, StateDoesNotFit}
 use Rattle.guards.specs.declared.state.State.{State}
-use Rattle.guards.specs.declared.state.Outcome.{Outcome}
-use Rattle.guards.specs.declared.state.Called.{Called}
+use Rattle.guards.specs.Outcome.{Outcome}
+use Rattle.guards.specs.Outcome.{Called}
 use Rattle.guards.specs.Moment.{moment_of}
 use Rattle.guards.specs.Fits.{fits}
 use Rattle.guards.specs.Calls.{refused, taken, fresh_start, has_task, arrive}

@@ -12,7 +12,7 @@ use Rattle.table.specs.Plan.{plan_of}
 use Rattle.table.specs.Refusals.{last_clock}
 use Rattle.table.specs.declared.refusal.Refusal.TheVariants.{StateDoesNotFit}
 use Rattle.guards.specs.declared.state.State.{State}
-use Rattle.guards.specs.declared.state.Outcome.{Outcome}
+use Rattle.guards.specs.Outcome.{Outcome}
 use Rattle.guards.specs.Moment.{moment_of, state_with}
 use Rattle.guards.specs.Machine.{start}
 use Rattle.guards.specs.Fits.{row_fits, fits}

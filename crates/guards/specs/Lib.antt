@@ -1,3 +1,4 @@
+pub mod Outcome
 pub mod Moment
 pub mod Running
 pub mod Machine
@@ -23,3 +24,7 @@ pub mod FitsKept
 pub mod TakenLaws
 pub mod CallsFit
 pub mod CallsLaws
+pub mod Stored
+pub mod Lists
+pub mod ViewedLaws
+pub mod InRows

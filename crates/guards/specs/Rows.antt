@@ -1,10 +1,9 @@
 -- A plan's rows in the lists that the calls read.
-use Rattle.std.specs.Prelude.{ℕ, ◌+◌, Bool, false, cond, not, ◌&&◌, ◌||◌, List, [], leb, ltb, eqb, length, get_or}
+use Rattle.std.specs.Prelude.{ℕ, ◌+◌, Bool, false, cond, not, ◌&&◌, ◌||◌, List, [], leb, ltb, eqb, length, get_or, Err, Ok, Result}
+use Rattle.table.specs.declared.refusal.Refusal.{Refusal}
 use Rattle.table.specs.Table.{Table, at, most_rows}
 use Rattle.table.specs.Plan.{Plan}
 use Rattle.planned.specs.View.{viewed}
-use Rattle.planned.specs.declared.plan.View.{View}
-use Rattle.planned.specs.declared.plan.View.TheVariants as view
 use Rattle.guards.specs.declared.state.State.{State}
 use Rattle.guards.specs.Moment.{moment_of}
 use Rattle.guards.specs.Fits.{fits}
@@ -16,9 +15,9 @@ pub record Rows : Type 0 where
   pub first : List Bool
 
 -- How many rows the view of a table has: none where it is refused.
-abbrev pub count_of : View → ℕ
-count_of (view.Rows count) = count
-count_of (view.Refused refusal) = 0
+abbrev pub count_of : Result ℕ Refusal → ℕ
+count_of (Ok count) = count
+count_of (Err refusal) = 0
 
 -- The rows of a table laid into two lists; where it is no plan, or a list is too short, there are none.
 unfoldable pub rows_in : Table → List ℕ → List Bool → Rows

@@ -32,7 +32,7 @@ pub record RowsOf (T : Table) (R : Rows) : Type 0 where
 
 -- Lists of 128 are long enough for any plan's rows.
 module _ (T : Table) (periods : List ℕ) (firsts : List Bool) where
-  rows_are : length periods ≡ 128 → length firsts ≡ 128 → is_plan T ≡ true → RowsOf T (rows_in T periods firsts)
+  pub rows_are : length periods ≡ 128 → length firsts ≡ 128 → is_plan T ≡ true → RowsOf T (rows_in T periods firsts)
   unfolding rows_in viewed
   rows_are p f q =
       let few = (checked T q).rows_most in

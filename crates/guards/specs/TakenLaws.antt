@@ -1,6 +1,6 @@
 -- What each call comes to: a refusal, which leaves the state, or what the machine does.
 use Prim.Native.Nat.{ℕ, suc, pred, ◌+◌, ◌≤◌, ◌<◌}
-use Rattle.std.specs.Prelude.{◌≡◌, refl, Bool, false, cond, not, ◌&&◌, ◌||◌, List, leb, ltb, length, get_or}
+use Rattle.std.specs.Prelude.{◌≡◌, refl, Bool, false, cond, not, ◌&&◌, ◌||◌, List, leb, ltb, length, get_or, Err, Ok}
 use Rattle.std.proofs.Common.{◌∙◌, arith}
 use Rattle.std.proofs.Math.Bool.{true}
 use borrow.Author.Tests.{ltb-false, leb-true, eqb-true, eqb-false, eq-eqb, lt-ltb, not-false}
@@ -17,8 +17,7 @@ use Rattle.planned.specs.ViewLaws.{Inside, inside_first}
 use Rattle.table.specs.Refusals.{last_clock}
 use Rattle.table.specs.declared.refusal.Refusal.{Refusal}
 use Rattle.guards.specs.declared.state.State.{State}
-use Rattle.guards.specs.declared.state.Answer.TheVariants.{Taken, Refused}
-use Rattle.guards.specs.declared.state.Outcome.{Outcome}
+use Rattle.guards.specs.Outcome.{Outcome}
 use Rattle.guards.specs.Moment.{Moment, moment_of, state_with}
 use Rattle.guards.specs.Running.{running, runs}
 use Rattle.guards.specs.Machine.{arrived, ticked}
@@ -60,11 +59,11 @@ pub record MayArrive (T : Table) (σ : State) (task : ℕ) : Type 0 where
   pub guard_due : (moment_of σ).guard (first_row T (pred task)) ≤ σ.clock
 
 pub data Arriving (T : Table) (σ : State) (task : ℕ) : Outcome → Type 0 where
-  refused : (refusal : Refusal) → Arriving T σ task (record { answer = Refused refusal; state = σ })
+  refused : (refusal : Refusal) → Arriving T σ task (record { answer = Err refusal; state = σ })
   taken :
       MayArrive T σ task
       → Arriving T σ task (record {
-        answer = Taken (first_row T (pred task) + 1);
+        answer = Ok (first_row T (pred task) + 1);
         state = state_with (rows T) (arrived (plan_of T) (moment_of σ) (first_row T (pred task))) σ;
       })
 
@@ -139,12 +138,12 @@ pub record MayTick (T : Table) (σ : State) (done : List ℕ) : Type 0 where
 pub data Ticking (T : Table) (σ : State) (done released : List ℕ) : TickOutcome → Type 0 where
   refused :
       (refusal : Refusal)
-      → Ticking T σ done released (record { outcome = record { answer = Refused refusal; state = σ }; released = released })
+      → Ticking T σ done released (record { outcome = record { answer = Err refusal; state = σ }; released = released })
   taken :
       MayTick T σ done
       → Ticking T σ done released (record {
         outcome = record {
-          answer = Taken (σ.clock + 1);
+          answer = Ok (σ.clock + 1);
           state = state_with (rows T) (ticked (plan_of T) (moment_of σ) (is_done done)) σ;
         };
         released = filled (released_byte T σ done) (rows T) released;

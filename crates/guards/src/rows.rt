@@ -1,37 +1,24 @@
 // A plan's rows as the calls read them.
 
 ghost use Rattle.std.specs.Prelude.{◌≡◌};
-ghost use Rattle.table.specs.Table.{table_of};
-ghost use Rattle.guards.specs.Rows.{Rows, count_of, rows_in};
+ghost use Rattle.guards.specs.Rows.{Rows, rows_in};
 
-use planned::plan::{View, view_rows};
+use planned::rows::view_rows;
+use table::view::TableView;
 
-fn count_of(view: View) -> usize
-    ensures { result ≡ count_of view }
-{
-    match view {
-        View::Rows(rows) => rows as usize,
-        View::Refused(_) => 0,
-    }
+// How many rows there are, each one's period, and whether it is the first of its chain.
+// Lists in parallel, as `view_rows` fills them and `Rows` (specs/Rows.antt) names them.
+#[derive(Clone, Copy)]
+pub struct PlanRows<'a> {
+    pub count: usize,
+    pub periods: &'a [u64],
+    pub firsts: &'a [bool],
 }
 
-// The rows of a table in two lists, and how many there are; a table that is no plan has none.
-pub fn rows_in(
-    processors: u64,
-    tasks: u64,
-    period: &[u64],
-    deadline: &[u64],
-    steps: &[u64],
-    processor: &[u64],
-    priority: &[u64],
-    time: &[u64],
-    periods: &mut [u64],
-    firsts: &mut [bool],
-) -> usize
-    ensures { ◌≡◌ {A = Rows} (record { count = result; period = periods.new; first = firsts.new }) (rows_in (table_of processors tasks period.now deadline.now steps.now processor.now priority.now time.now) periods.old firsts.old) }
+// The rows of a table in two lists, and how many there are: 0 where `view_rows` refuses, as the table is no plan or a list is too short.
+// A number and no Result: `rows_in` can't fail (docs/CONTRACTS.md).
+pub fn rows_in<T: TableView>(table: &T, periods: &mut [u64], firsts: &mut [bool]) -> usize
+    ensures { ◌≡◌ {A = Rows} (record { count = result; period = periods.new; first = firsts.new }) (rows_in (T.table table.now) periods.old firsts.old) }
 {
-    let view = view_rows(
-        processors, tasks, period, deadline, steps, processor, priority, time, periods, firsts,
-    );
-    count_of(view)
+    view_rows(table, periods, firsts).unwrap_or(0) as usize
 }

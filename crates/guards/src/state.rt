@@ -2,14 +2,15 @@
 // and its guard.
 
 ghost use Rattle.std.specs.Prelude.{◌≡◌};
-ghost use Rattle.guards.specs.Lent.{refused_at, taken_at};
+ghost use Rattle.guards.specs.StateLaws.{Sizes};
 
-use table::refusal::Refusal;
+use crate::run::{ArrivalState, RunState, StateView};
 
 // The clock of a run ends here.
 pub const LAST_CLOCK: u64 = 1000000000000;
 
-#[derive(Clone, Copy)]
+// Lists in parallel, as `moment_of` and `state_with` name them, and of fixed size: there is no heap.
+#[derive(Clone, Copy, PartialEq, Eq)]
 pub struct State {
     pub clock: u64,
     pub released: [u64; 128],
@@ -18,43 +19,69 @@ pub struct State {
     pub guard: [u64; 128],
 }
 
-// What a call answers: a number, or why it is refused.
-#[derive(Clone, Copy)]
-pub enum Answer {
-    Taken(u64),
-    Refused(Refusal),
-}
-
-// The answer of a call and the state after it.
-#[derive(Clone, Copy)]
-pub struct Outcome {
-    pub answer: Answer,
-    pub state: State,
-}
-
-// The answer of a call and the clock after it; the rows are in the lists that were lent to it.
-#[derive(Clone, Copy)]
-pub struct Called {
-    pub answer: Answer,
-    pub clock: u64,
-}
-
-// A call is refused, and the clock stays.
-pub fn refused(refusal: Refusal, clock: u64) -> Called
-    ensures { result ≡ refused_at refusal clock }
-{
-    Called {
-        answer: Answer::Refused(refusal),
-        clock: clock,
+impl State {
+    // How many rows it has room for: any plan's.
+    pub fn room(&self) -> usize
+        ensures room { result ≡ 128 }
+        ensures sizes { Sizes self.now }
+    {
+        self.released.len()
     }
 }
 
-// A call is taken, with its answer and the clock after it.
-pub fn taken(answer: u64, clock: u64) -> Called
-    ensures { result ≡ taken_at answer clock }
-{
-    Called {
-        answer: Answer::Taken(answer),
-        clock: clock,
+#[tactic(auto, unfolding(crate::specs::Lent::holds))]
+impl StateView for State {
+    ghost state = { λ s. s };
+
+    fn clock(&self) -> u64 {
+        self.clock
+    }
+
+    fn rows_held(&self, n: usize) -> bool {
+        n <= self.room()
+    }
+
+    fn released(&self, row: usize) -> u64 {
+        self.released[row]
+    }
+
+    fn completed(&self, row: usize) -> u64 {
+        self.completed[row]
+    }
+
+    fn used(&self, row: usize) -> u64 {
+        self.used[row]
+    }
+
+    fn guard(&self, row: usize) -> u64 {
+        self.guard[row]
+    }
+}
+
+impl ArrivalState for State {
+    ghost use Rattle.std.specs.Prelude.{[]};
+
+    ghost names = { λ s. [] };
+
+    fn set_released(&mut self, row: usize, value: u64) {
+        self.released[row] = value;
+    }
+
+    fn set_guard(&mut self, row: usize, value: u64) {
+        self.guard[row] = value;
+    }
+}
+
+impl RunState for State {
+    fn set_clock(&mut self, clock: u64) {
+        self.clock = clock;
+    }
+
+    fn set_completed(&mut self, row: usize, value: u64) {
+        self.completed[row] = value;
+    }
+
+    fn set_used(&mut self, row: usize, value: u64) {
+        self.used[row] = value;
     }
 }

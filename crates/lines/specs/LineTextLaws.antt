@@ -1,15 +1,13 @@
 -- Reading a line gives what was written, and a line that is read is what stands there.
-use Rattle.std.specs.Prelude.{ℕ, ◌+◌, ◌^◌, ◌≤◌, ◌<◌, ◌≡◌, refl, Bool, true, false, List, [], ◌∷◌, ◌++◌, eqb, length, get_or, take, drop}
+use Rattle.std.specs.Prelude.{ℕ, ◌+◌, ◌^◌, ◌≤◌, ◌<◌, ◌≡◌, refl, Bool, true, false, List, [], ◌∷◌, ◌++◌, eqb, length, get_or, take, drop, Some, None}
 use Rattle.std.proofs.Common.{sym, ◌∙◌, ap, append_assoc, arith, eq-eqb, eqb-true, length-append, length-drop, take-append-drop, drop-drop, get_or-drop, get_or-take, ext_get_or, length-take-le}
 use Rattle.std.proofs.Math.ListN.{get_or-append}
 use Rattle.std.proofs.Math.Seq.{drop-append_seam, get_or-append_seam}
 use Rattle.facts.specs.TestsLaws.{all_at, all_of}
 use Rattle.text.specs.Text.{decimal}
 use Rattle.text.specs.TextLaws.{line_parts, length_line}
-use Rattle.lines.specs.declared.line.Line.{Line}
-use Rattle.lines.specs.declared.line.Line.TheVariants.{Value, Fault}
 use Rattle.lines.specs.Words.{word, line_of}
-use Rattle.lines.specs.Line.{stands, line_at}
+use Rattle.lines.specs.Line.{Line, stands, line_at}
 use Rattle.lines.specs.LineStands.{LineStands}
 use Rattle.lines.specs.ValueLaws.{NumberThere, number_read, number_found, no_line}
 use Rattle.lines.specs.LineLaws.{inside}
@@ -42,7 +40,7 @@ head_read file rest place key e =
 
 -- A line that stands in the file is read with its value,
 pub line_read :
-    (file : List ℕ) (place key v behind : ℕ) → LineStands file place key v behind → line_at file place key ≡ Value v behind
+    (file : List ℕ) (place key v behind : ℕ) → LineStands file place key v behind → line_at file place key ≡ Some (v, behind)
 unfolding line_at
 line_read file place key v behind s = rw (head_read file _ place key there, number_read file _ v behind number)
   where
@@ -97,7 +95,7 @@ head_found file place key e =
 
 -- and a line that is read stands there.
 pub line_found :
-    (file : List ℕ) (place key v behind : ℕ) → line_at file place key ≡ Value v behind → LineStands file place key v behind
+    (file : List ℕ) (place key v behind : ℕ) → line_at file place key ≡ Some (v, behind) → LineStands file place key v behind
 unfolding line_at
 line_found file place key v behind e = go (stands file place (head key)) refl
   where
@@ -138,13 +136,13 @@ stands_within file place key v behind s =
 
 -- A place where no line of the key stands is a fault, and only such a place.
 pub fault_of :
-    (file : List ℕ) (place key : ℕ) → ((v behind : ℕ) → LineStands file place key v behind → ⊥) → line_at file place key ≡ Fault
+    (file : List ℕ) (place key : ℕ) → ((v behind : ℕ) → LineStands file place key v behind → ⊥) → line_at file place key ≡ None
 fault_of file place key none = go (line_at file place key) refl
   where
-    go : (l : Line) → line_at file place key ≡ l → line_at file place key ≡ Fault
-    go Fault e = e
-    go (Value v behind) e = absurd (none v behind (line_found file place key v behind e))
+    go : (l : Line) → line_at file place key ≡ l → line_at file place key ≡ None
+    go None e = e
+    go (Some (v, behind)) e = absurd (none v behind (line_found file place key v behind e))
 
 pub fault_none :
-    (file : List ℕ) (place key : ℕ) → line_at file place key ≡ Fault → (v behind : ℕ) → LineStands file place key v behind → ⊥
+    (file : List ℕ) (place key : ℕ) → line_at file place key ≡ None → (v behind : ℕ) → LineStands file place key v behind → ⊥
 fault_none file place key e v behind s = no_line (sym e ∙ line_read file place key v behind s)

@@ -2,9 +2,8 @@
 use Rattle.std.specs.Prelude.{ℕ, ◌≡◌, List}
 use Rattle.facts.specs.OutcomesLaws.{equation_one}
 use Rattle.text.specs.Text.{Written, appended}
-use Rattle.lines.specs.declared.line.Line.{Line}
 use Rattle.lines.specs.Words.{word}
-use Rattle.lines.specs.Line.{line_at}
+use Rattle.lines.specs.Line.{Line, line_at}
 
 pub line_one : (file : List ℕ) (place key : ℕ) (a b : Line) → a ≡ line_at file place key → b ≡ line_at file place key → a ≡ b
 line_one file place key a b = equation_one

@@ -1,12 +1,11 @@
 -- Reading a value gives what was written, and a value that is read is what stands there.
-use Rattle.std.specs.Prelude.{ℕ, zero, suc, ◌+◌, ◌*◌, ◌-◌, ◌^◌, ◌≤◌, ◌<◌, ◌≡◌, refl, Bool, true, false, cond, List, [], ◌∷◌, ◌++◌, leb, eqb, length, get_or, drop}
+use Rattle.std.specs.Prelude.{ℕ, zero, suc, ◌+◌, ◌*◌, ◌-◌, ◌^◌, ◌≤◌, ◌<◌, ◌≡◌, refl, Bool, true, false, cond, List, [], ◌∷◌, ◌++◌, leb, eqb, length, get_or, drop, Some, None}
 use Rattle.std.proofs.Common.{sym, ◌∙◌, ap, add-zero, add-one, arith, leb-true, eq-eqb, eqb-true, drop-cons, drop-drop, get_or-drop}
 use Rattle.std.proofs.Math.Nat.{pow-le-pow_right}
 use Rattle.facts.specs.TestsLaws.{and_left, and_right}
 use Rattle.text.specs.Text.{decimal}
 use Rattle.text.specs.NumeralLaws.{AllDigits, Numeral, value_of, value_of_more, numeral_value, numeral_less, decimal_numeral, decimal_value, decimal_few}
-use Rattle.lines.specs.declared.line.Line.TheVariants.{Value, Fault}
-use Rattle.lines.specs.Line.{is_digit, digits_from, value_from}
+use Rattle.lines.specs.Line.{Line, is_digit, digits_from, value_from}
 use Rattle.lines.specs.LineLaws.{digit_yes, digits_lf, digits_more, inside}
 
 -- A number's text and an LF stand in the file from the place on.
@@ -51,10 +50,10 @@ digit_read left file place value b e l h =
 -- Digits and an LF give the number that they spell.
 digits_read :
     (ds : List ℕ) (left : ℕ) (file rest : List ℕ) (place value : ℕ) → AllDigits ds → length ds ≤ left
-    → drop place file ≡ ds ++ (10 ∷ rest) → digits_from left file place value ≡ Value (value_of value ds) (place + length ds + 1)
+    → drop place file ≡ ds ++ (10 ∷ rest) → digits_from left file place value ≡ Some (value_of value ds, place + length ds + 1)
 unfolding value_of
 digits_read [] left file rest place value d l e =
-    digits_lf file place value left (head_is file place 10 rest e) ∙ ap (λ (n : ℕ). Value value (n + 1)) (sym (add-zero place))
+    digits_lf file place value left (head_is file place 10 rest e) ∙ ap (λ (n : ℕ). Some (value, n + 1)) (sym (add-zero place))
 digits_read (b ∷ ds) zero file rest place value d l e = absurd (omega arith)
 digits_read (b ∷ ds) (suc left) file rest place value d l e =
     let h = d 0 (omega arith) in
@@ -62,7 +61,7 @@ digits_read (b ∷ ds) (suc left) file rest place value d l e =
     digit_read left file place value b (head_is file place b (ds ++ (10 ∷ rest)) e) h.0 h.1
     ∙ digits_read ds left file rest (place + 1) (value * 10 + (b - 48)) (λ i g. d (suc i) (omega arith)) (omega arith)
     (tail_is file place b (ds ++ (10 ∷ rest)) e)
-    ∙ ap (λ (m : ℕ). Value (value_of (value * 10 + (b - 48)) ds) (m + 1)) n
+    ∙ ap (λ (m : ℕ). Some (value_of (value * 10 + (b - 48)) ds, m + 1)) n
 
 -- How many digits may follow the first one.
 abbrev more : ℕ → ℕ
@@ -77,14 +76,14 @@ first_read file place b e l h = rw (e, digit_yes b l h)
 -- A number's text and an LF give the number.
 numeral_read :
     (bs file rest : List ℕ) (place : ℕ) → Numeral bs → length bs ≤ 9 → drop place file ≡ bs ++ (10 ∷ rest)
-    → value_from file place ≡ Value (value_of 0 bs) (place + length bs + 1)
+    → value_from file place ≡ Some (value_of 0 bs, place + length bs + 1)
 numeral_read [] file rest place f l e = absurd (omega (arith, f.some))
 numeral_read (b ∷ bs) file rest place f l e = go (eqb b 48) refl
   where
     first : get_or file place 0 ≡ b
     first = head_is file place b (bs ++ (10 ∷ rest)) e
 
-    onward : length bs ≤ more b → value_from file place ≡ Value (value_of 0 (b ∷ bs)) (place + length (b ∷ bs) + 1)
+    onward : length bs ≤ more b → value_from file place ≡ Some (value_of 0 (b ∷ bs), place + length (b ∷ bs) + 1)
     onward h =
         let n : place + 1 + length bs ≡ place + suc (length bs) = omega arith in
         let m : b - 48 ≡ 0 * 10 + (b - 48) = omega arith in
@@ -92,18 +91,18 @@ numeral_read (b ∷ bs) file rest place f l e = go (eqb b 48) refl
         first_read file place b first d.0 d.1
         ∙ digits_read bs (more b) file rest (place + 1) (b - 48) (λ i g. f.digit (suc i) (omega arith)) h
         (tail_is file place b (bs ++ (10 ∷ rest)) e)
-        ∙ ap (λ (k : ℕ). Value (value_of (b - 48) bs) (k + 1)) n
-        ∙ ap (λ (k : ℕ). Value (value_of k bs) (place + suc (length bs) + 1)) m
-        ∙ ap (λ (k : ℕ). Value k (place + suc (length bs) + 1)) (sym (value_of_more 0 b bs))
+        ∙ ap (λ (k : ℕ). Some (value_of (b - 48) bs, k + 1)) n
+        ∙ ap (λ (k : ℕ). Some (value_of k bs, place + suc (length bs) + 1)) m
+        ∙ ap (λ (k : ℕ). Some (k, place + suc (length bs) + 1)) (sym (value_of_more 0 b bs))
 
-    go : (t : Bool) → eqb b 48 ≡ t → value_from file place ≡ Value (value_of 0 (b ∷ bs)) (place + length (b ∷ bs) + 1)
+    go : (t : Bool) → eqb b 48 ≡ t → value_from file place ≡ Some (value_of 0 (b ∷ bs), place + length (b ∷ bs) + 1)
     go true t = onward (rw t (omega (arith, f.lead (eqb-true b 48 t))))
     go false t = onward (rw t (omega arith))
 
 -- A value that stands there as text is read.
 pub number_read :
     (file : List ℕ) (place value behind : ℕ) → NumberThere file place value behind
-    → value_from file place ≡ Value value behind
+    → value_from file place ≡ Some (value, behind)
 number_read file place value behind s =
     let small : value < 10 ^ 20 = omega (arith, s.small) in
     numeral_read (decimal value) file (drop behind file) place (decimal_numeral value small)
@@ -121,18 +120,18 @@ record Spelt (left : ℕ) (file : List ℕ) (place before value behind : ℕ) : 
   ends : place + length bytes + 1 ≡ behind
   there : drop place file ≡ bytes ++ (10 ∷ drop behind file)
 
-pub same_value : {a b v w : ℕ} → Value a b ≡ Value v w → (a ≡ v) × (b ≡ w)
+pub same_value : {a b v w : ℕ} → ◌≡◌ {A = Line} (Some (a, b)) (Some (v, w)) → (a ≡ v) × (b ≡ w)
 same_value {a} {b} {v} {w} e =
-    let x : a ≡ v = cc in
-    let y : b ≡ w = cc in
-    (x, y)
+    let value : Line → ℕ = elim [ None ↦ 0 | Some x ↦ x.0 ] in
+    let behind : Line → ℕ = elim [ None ↦ 0 | Some x ↦ x.1 ] in
+    (ap value e, ap behind e)
 
-pub no_line : {v behind : ℕ} → Fault ≡ Value v behind → ⊥
+pub no_line : {v behind : ℕ} → ◌≡◌ {A = Line} None (Some (v, behind)) → ⊥
 no_line {v} {behind} e = let z : ◌≡◌ {A = ℕ} 0 1 = cc in omega arith
 
 lf_found :
     (left : ℕ) (file : List ℕ) (place before value behind : ℕ) → get_or file place 0 ≡ 10
-    → digits_from left file place before ≡ Value value behind → Spelt left file place before value behind
+    → digits_from left file place before ≡ Some (value, behind) → Spelt left file place before value behind
 unfolding value_of
 lf_found left file place before value behind e r =
     let s = same_value (sym (digits_lf file place before left e) ∙ r) in
@@ -167,7 +166,7 @@ digit_found left file place before value behind e s = record {
     each (suc i) h = s.digit i (omega arith)
 
 digits_found :
-    (left : ℕ) (file : List ℕ) (place before value behind : ℕ) → digits_from left file place before ≡ Value value behind
+    (left : ℕ) (file : List ℕ) (place before value behind : ℕ) → digits_from left file place before ≡ Some (value, behind)
     → Spelt left file place before value behind
 unfolding digits_from
 digits_found zero file place before value behind e = go (eqb (get_or file place 0) 10) refl
@@ -180,7 +179,7 @@ digits_found (suc left) file place before value behind e = go (eqb (get_or file 
   where
     go :
         (t : Bool) → eqb (get_or file place 0) 10 ≡ t → (u : Bool) → is_digit (get_or file place 0) ≡ u
-        → (digits_from left file (place + 1) (before * 10 + (get_or file place 0 - 48)) ≡ Value value behind → Spelt left file (place + 1) (before * 10 + (get_or file place 0 - 48)) value behind)
+        → (digits_from left file (place + 1) (before * 10 + (get_or file place 0 - 48)) ≡ Some (value, behind) → Spelt left file (place + 1) (before * 10 + (get_or file place 0 - 48)) value behind)
         → Spelt (suc left) file place before value behind
     go true t u d ih = lf_found (suc left) file place before value behind (eqb-true _ 10 t) e
     go false t true d ih = digit_found left file place before value behind d (ih (rw (t, d) at e))
@@ -230,7 +229,7 @@ first_found file place b value behind e l h s =
 
 -- A value that is read stands there as text.
 pub number_found :
-    (file : List ℕ) (place value behind : ℕ) → value_from file place ≡ Value value behind
+    (file : List ℕ) (place value behind : ℕ) → value_from file place ≡ Some (value, behind)
     → NumberThere file place value behind
 unfolding value_from
 number_found file place value behind e = go (is_digit (get_or file place 0)) refl

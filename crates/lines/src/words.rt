@@ -8,6 +8,9 @@ use table::keys;
 use text::append;
 
 // Appends the word of the key; a number that is no key's has none.
+// Output and place are no struct: `appended .. out.old at` in the contract takes both.
+// A match, no list of words: each word is copied as the literal that it is.
+#[tactic(auto, using(crate::specs::LineLaws::no_word, text::specs::TextLaws::appended_none), unfolding(crate::specs::Words::word, crate::specs::Words::words))]
 pub fn append_word(out: &mut [u8], at: usize, key: usize) -> usize
     ensures { ◌≡◌ {A = Written} (record { list = out.new; end = result }) (appended (word key) out.old at) }
 {

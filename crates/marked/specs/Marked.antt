@@ -1,6 +1,6 @@
 -- Document 01's marked examples, P1 to P6 and P8 to P12, as one list, and when an example holds: by the outcomes that the
 -- contracts of the report, the bounds and the guards name.
-use Rattle.std.specs.Prelude.{ℕ, ◌*◌, ◌-◌, ◌≤◌, ◌<◌, ◌≡◌, true, cond, List, [], ◌∷◌, length, get_or, replicate}
+use Rattle.std.specs.Prelude.{ℕ, ◌*◌, ◌-◌, ◌≤◌, ◌<◌, ◌≡◌, true, cond, List, [], ◌∷◌, length, get_or, replicate, Err, Ok}
 use Prim.Native.String.{String}
 use Rattle.facts.specs.Least.{Least}
 use Rattle.facts.specs.Filled.{laid}
@@ -9,12 +9,9 @@ use Rattle.table.specs.Refusals.{number_of, place_of}
 use Rattle.table.specs.declared.refusal.Refusal.{Refusal}
 use Rattle.planfile.specs.Reading.{table, held}
 use Rattle.equations.specs.Row.{Row, work_to}
-use Rattle.bounds.specs.declared.Bounded.TheVariants.{Verdict, Refused as NotBounded}
 use Rattle.bounds.specs.Bounds.{equations, Numbers, accepted, Lists, needed, filled_in, Bounding}
-use Rattle.report.specs.declared.Reporting.TheVariants.{Bytes}
 use Rattle.report.specs.Reporting.{FileReported}
 use Rattle.guards.specs.declared.state.State.{State}
-use Rattle.guards.specs.declared.state.Answer.TheVariants.{Refused}
 use Rattle.guards.specs.Calls.{fresh_start}
 use Rattle.marked.specs.Text.{text_of}
 use Rattle.marked.specs.Run.{Call, arrival, clock_tick, lent_to, outcome_of, steps, after, all_taken, told_released, counted_released, RowRun, row_runs, Arrivals, at_full_times}
@@ -65,7 +62,7 @@ numbers_of expected = record {
 pub record HasBounds (T : Table) (expected : List RowNumbers) : Type 0 where
   pub outcome :
       (lent : Lists) → needed T lent ≡ 0
-      → Bounding T lent (filled_in T (numbers_of expected) lent) (Verdict (cond (accepted T (numbers_of expected)) 1 0))
+      → Bounding T lent (filled_in T (numbers_of expected) lent) (Ok (cond (accepted T (numbers_of expected)) 1 0))
   pub counted : (r : ℕ) → r < rows T → length (expected_of expected r).instance_bounds ≡ (expected_of expected r).instances
   pub each :
       (r : ℕ) → r < rows T → (k : ℕ) → k < (expected_of expected r).instances
@@ -89,10 +86,10 @@ abbrev pub Holds : Example → Type 0
 Holds (reported file T report) =
     (held (text_of file) ≡ table T)
     × ((out : List ℕ) → length (text_of report) ≤ length out
-    → FileReported (text_of file) out (record { answer = Bytes (length (text_of report)); out = laid (text_of report) out }))
+    → FileReported (text_of file) out (record { answer = Ok (length (text_of report)); out = laid (text_of report) out }))
 Holds (bounded T expected) = HasBounds T expected
 Holds (unbounded T number place) =
-    (lent : Lists) → needed T lent ≡ 0 → RefusalOf number place (λ r. Bounding T lent lent (NotBounded r))
+    (lent : Lists) → needed T lent ≡ 0 → RefusalOf number place (λ r. Bounding T lent lent (Err r))
 Holds (ran T calls rows) =
     (any : State)
     → let run = steps T (fresh_start T any).state calls in
@@ -101,7 +98,7 @@ Holds (refused T calls call number place) =
     (any : State)
     → let found = after T (fresh_start T any).state calls in
     (all_taken (steps T (fresh_start T any).state calls) ≡ true)
-    × RefusalOf number place (λ r. outcome_of T found call ≡ record { outcome = record { answer = Refused r; state = found }; released = lent_to T call })
+    × RefusalOf number place (λ r. outcome_of T found call ≡ record { outcome = record { answer = Err r; state = found }; released = lent_to T call })
 
 -- Document 01's plan, as a file and as a table.
 unfoldable pub paper_file : List String

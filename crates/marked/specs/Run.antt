@@ -1,11 +1,10 @@
 -- Runs of calls, in the very outcomes that the contracts of the guards name.
-use Rattle.std.specs.Prelude.{ℕ, ◌+◌, Bool, true, false, cond, ◌&&◌, ◌||◌, List, [], ◌∷◌, ◌++◌, ltb, eqb}
+use Rattle.std.specs.Prelude.{ℕ, ◌+◌, Bool, true, false, cond, ◌&&◌, ◌||◌, List, [], ◌∷◌, ◌++◌, ltb, eqb, Err, Ok, Result}
 use Rattle.facts.specs.Filled.{tab, joined}
+use Rattle.table.specs.declared.refusal.Refusal.{Refusal}
 use Rattle.table.specs.Table.{Table, at, rows}
 use Rattle.table.specs.Plan.{plan_of}
 use Rattle.guards.specs.declared.state.State.{State}
-use Rattle.guards.specs.declared.state.Answer.{Answer}
-use Rattle.guards.specs.declared.state.Answer.TheVariants.{Taken, Refused}
 use Rattle.guards.specs.Moment.{moment_of}
 use Rattle.guards.specs.Calls.{arrive, used_up, TickOutcome, tick}
 
@@ -43,9 +42,9 @@ after T σ [] = σ
 after T σ (call ∷ calls) = after T (outcome_of T σ call).outcome.state calls
 
 -- The answer is not a refusal.
-unfoldable pub is_taken : Answer → Bool
-is_taken (Taken number) = true
-is_taken (Refused refusal) = false
+unfoldable pub is_taken : Result ℕ Refusal → Bool
+is_taken (Ok number) = true
+is_taken (Err refusal) = false
 
 -- No call of the run is refused.
 unfoldable pub all_taken : List Step → Bool
@@ -58,9 +57,9 @@ clocks test [] = []
 clocks test (s ∷ ss) = cond (test s) (s.left.outcome.state.clock ∷ clocks test ss) (clocks test ss)
 
 -- The answer is this number.
-unfoldable pub answers : ℕ → Answer → Bool
-answers n (Taken number) = eqb n number
-answers n (Refused refusal) = false
+unfoldable pub answers : ℕ → Result ℕ Refusal → Bool
+answers n (Ok number) = eqb n number
+answers n (Err refusal) = false
 
 -- By what the caller is told, the call released row r, counted from 0: an arrival answers its number, and the release list
 -- of a tick has 1 for it.

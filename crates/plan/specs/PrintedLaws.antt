@@ -1,5 +1,5 @@
 -- Laws of what the plan program prints.
-use Rattle.std.specs.Prelude.{ℕ, suc, ◌≤◌, ◌≡◌, true, List, length, take, drop}
+use Rattle.std.specs.Prelude.{ℕ, suc, ◌≤◌, ◌≡◌, true, List, length, take, drop, Err, Ok}
 use Rattle.std.proofs.Common.{sym, ◌∙◌, ap, subst, arith, le-ltb, length-append, length-take-le}
 use Rattle.std.proofs.Math.Seq.{take-append_seam}
 use Rattle.io.specs.Counts.{IsPrefixLen}
@@ -16,9 +16,8 @@ use Rattle.text.specs.NumeralLaws.{decimal_most}
 use Rattle.planfile.specs.RoundTrip.{held_most, read_is}
 use Rattle.bounds.specs.Bounds.{Numbers, Analysis, Stuck}
 use Rattle.bounds.specs.BoundsLaws.{never_stuck, stuck_one}
-use Rattle.report.specs.declared.Reporting.{Reporting}
-use Rattle.report.specs.declared.Reporting.TheVariants.{Bytes, Refused}
 use Rattle.report.specs.Report.{report_text, figures}
+use Rattle.report.specs.AnswersLaws.{value_same, refusal_same, differ}
 use Rattle.report.specs.ReportLaws.{report_few}
 use Rattle.report.specs.FiguresLaws.{figures_small, report_one}
 use Rattle.report.specs.FileReportLaws.{held_refusal, held_table, held_either}
@@ -72,15 +71,6 @@ refusal_few r =
       decimal_most (place_of r),
     )
 
-bytes_same : {a : Reporting} {m n : ℕ} → a ≡ Bytes m → a ≡ Bytes n → m ≡ n
-bytes_same d e = cc
-
-refusal_same : {a : Reporting} {r s : Refusal} → a ≡ Refused r → a ≡ Refused s → r ≡ s
-refusal_same d e = cc
-
-differ : {a : Reporting} {n : ℕ} {r : Refusal} → a ≡ Bytes n → a ≡ Refused r → ⊥
-differ d e = let z : ◌≡◌ {A = ℕ} 0 1 = cc in omega arith
-
 answer_is : {v w : ReportOutcome} → w ≡ v → w.answer ≡ v.answer
 answer_is e = ap (λ (o : ReportOutcome). o.answer) e
 
@@ -88,7 +78,7 @@ answer_is e = ap (λ (o : ReportOutcome). o.answer) e
 room_for :
     {T : Table} {N : Numbers} (out : List ℕ) → 9604 ≤ length out → is_plan T ≡ true → Analysis T N
     → delivered (report_text T N) out
-    ≡ record { answer = Bytes (length (report_text T N)); out = laid (report_text T N) out }
+    ≡ record { answer = Ok (length (report_text T N)); out = laid (report_text T N) out }
 unfolding delivered report_text
 room_for {T} {N} out room plan a =
     let few = report_few (figures T N) (figures_small T (checked T plan) a) in
@@ -96,17 +86,17 @@ room_for {T} {N} out room plan a =
 
 -- What stands at the front of an output over which a text is laid.
 front_of :
-    (text out : List ℕ) {w : ReportOutcome} {n : ℕ} → w ≡ record { answer = Bytes (length text); out = laid text out }
-    → w.answer ≡ Bytes n → (n ≤ length w.out) × (take n w.out ≡ text)
+    (text out : List ℕ) {w : ReportOutcome} {n : ℕ} → w ≡ record { answer = Ok (length text); out = laid text out }
+    → w.answer ≡ Ok n → (n ≤ length w.out) × (take n w.out ≡ text)
 front_of text out {w} {n} e s =
-    let m : length text ≡ n = bytes_same (answer_is e) s in
+    let m : length text ≡ n = value_same (answer_is e) s in
     let behind = drop (length text) out in
     rw (← m, e) (omega (arith, length-append text behind), take-append_seam text behind)
 
 -- The bytes reported to such an output are the text printed,
 module _ {file out : List ℕ} {w : ReportOutcome} (room : 9604 ≤ length out) where
   pub bytes_printed :
-      {n : ℕ} → FileReported file out w → w.answer ≡ Bytes n → (n ≤ length w.out) × Printed file (take n w.out)
+      {n : ℕ} → FileReported file out w → w.answer ≡ Ok n → (n ≤ length w.out) × Printed file (take n w.out)
   bytes_printed (reporting.too_long l e) s = absurd (differ s (answer_is e))
   bytes_printed (reporting.unread l h e) s = absurd (differ s (answer_is e))
   bytes_printed (reporting.read l h (reporting.no_plan n e)) s = absurd (differ s (answer_is e))
@@ -116,7 +106,7 @@ module _ {file out : List ℕ} {w : ReportOutcome} (room : 9604 ≤ length out) 
       (text.0, given h a text.1)
 
   -- and a refusal is printed as its two lines.
-  pub refusal_printed : {r : Refusal} → FileReported file out w → w.answer ≡ Refused r → Printed file (refusal_text r)
+  pub refusal_printed : {r : Refusal} → FileReported file out w → w.answer ≡ Err r → Printed file (refusal_text r)
   refusal_printed (reporting.too_long l e) s = too_long l (ap refusal_text (refusal_same s (answer_is e)))
   refusal_printed (reporting.unread l h e) s = unread l h (ap refusal_text (refusal_same s (answer_is e)))
   refusal_printed (reporting.read {T} l h (reporting.no_plan n e)) s = absurd (clash (read_is file T h).0 n)

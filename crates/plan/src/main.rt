@@ -7,13 +7,14 @@ ghost use Rattle.text.specs.Text.{Written, appended};
 ghost use Rattle.io.specs.Counts.{IsPrefixLen};
 ghost use Rattle.plan.specs.Printed.{Printed, refusal_text};
 
-use report::{Reporting, report_file};
+use report::report_file;
 use std::io::{self, Read};
-use table::refusal::{Refusal, number_of, place_of};
+use table::refusal::Refusal;
 use text::append_line;
 
 fn main(rt: HostRuntime) -> io::Result<()> {
     // One byte more than a file may have, so that a longer file is seen to be one; and room for any report.
+    // Fixed buffers with their ends, no Vec: there is no heap.
     let mut file = [0u8; 8193];
     let mut text = [0u8; 10240];
     let size = read_full(&rt, &mut file)?;
@@ -27,6 +28,7 @@ fn read_full(rt: &HostRuntime, buf: &mut [u8]) -> io::Result<usize>
 {
     let mut input = rt.stdin();
     let mut done = 0;
+    // By hand, since `read_to_end` asks for memory, and docs/PROOF.md names none among what is assumed of the programs.
     while done < buf.len() {
         let more = input.read(&mut buf[done..])?;
         if more == 0 {
@@ -43,14 +45,16 @@ fn print(file: &[u8], out: &mut [u8]) -> usize
     ensures { IsPrefixLen result out.new × Printed file.now (take result out.new) }
 {
     match report_file(file, out) {
-        Reporting::Bytes(bytes) => bytes as usize,
-        Reporting::Refused(refusal) => print_refusal(refusal, out),
+        Ok(bytes) => bytes as usize,
+        Err(refusal) => print_refusal(refusal, out),
     }
 }
 
+// The two lines of a refusal.
+#[tactic(auto, using(text::specs::TextLaws::appended_then), unfolding(crate::specs::Printed::refusal_text))]
 fn print_refusal(refusal: Refusal, out: &mut [u8]) -> usize
     ensures { ◌≡◌ {A = Written} (record { list = out.new; end = result }) (appended (refusal_text refusal) out.old 0) }
 {
-    let behind_number = append_line(out, 0, b"refused", number_of(refusal));
-    append_line(out, behind_number, b"at", place_of(refusal))
+    let behind_number = append_line(out, 0, b"refused", refusal.number());
+    append_line(out, behind_number, b"at", refusal.place())
 }

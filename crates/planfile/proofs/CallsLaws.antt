@@ -1,13 +1,11 @@
 -- Reading and writing have one outcome for each input, and a refusal leaves what is lent (document 01, "How tight the
 -- contracts are" and "Numbers that say no").
-use Rattle.std.specs.Prelude.{ℕ, ◌≡◌, refl, Bool, true, false, cond, not, List, ltb, length}
+use Rattle.std.specs.Prelude.{ℕ, ◌≡◌, refl, Bool, true, false, cond, not, List, ltb, length, Err}
 use Rattle.std.proofs.Common.{arith}
 use Rattle.facts.specs.OutcomesLaws.{equation_one}
 use Rattle.table.specs.Table.{Table, long_enough, is_plan}
 use Rattle.table.specs.declared.refusal.Refusal.{Refusal}
 use Rattle.table.specs.declared.refusal.Refusal.TheVariants.{FileTooLong, NotAPlan, TooShort}
-use Rattle.planfile.specs.declared.read.Reading.TheVariants as reading
-use Rattle.planfile.specs.declared.write.Writing.TheVariants as writing
 use Rattle.planfile.specs.File.{file_of}
 use Rattle.planfile.specs.Reading.{Held, table, refusal, Lists, ReadOutcome, most_bytes, held, read_of, read}
 use Rattle.planfile.specs.Writing.{WriteOutcome, write}
@@ -21,9 +19,9 @@ write_one T out a b = equation_one
 
 -- A refusal of reading leaves every list.
 abbrev Leaves : Lists → ReadOutcome → Type 0
-Leaves l o = (r : Refusal) → o.answer ≡ reading.Refused r → o.lists ≡ l
+Leaves l o = (r : Refusal) → o.answer ≡ Err r → o.lists ≡ l
 
-leaves_if : (l : Lists) (b : Bool) (r : Refusal) (o : ReadOutcome) → Leaves l o → Leaves l (cond b (record { answer = reading.Refused r; lists = l }) o)
+leaves_if : (l : Lists) (b : Bool) (r : Refusal) (o : ReadOutcome) → Leaves l o → Leaves l (cond b (record { answer = Err r; lists = l }) o)
 leaves_if l true r o h = λ s e. refl
 leaves_if l false r o h = h
 
@@ -32,7 +30,7 @@ unfolding read_of
 leaves_held l (table T) = λ r e. (let z : ◌≡◌ {A = ℕ} 0 1 = cc in absurd (omega arith))
 leaves_held l (refusal r) = λ s e. refl
 
-pub read_leaves : (file : List ℕ) (l : Lists) (r : Refusal) → (read file l).answer ≡ reading.Refused r → (read file l).lists ≡ l
+pub read_leaves : (file : List ℕ) (l : Lists) (r : Refusal) → (read file l).answer ≡ Err r → (read file l).lists ≡ l
 unfolding read
 read_leaves file l =
     leaves_if l (not (long_enough 128 l.processor l.priority l.time)) (TooShort 128) _
@@ -41,15 +39,15 @@ read_leaves file l =
 
 -- A refusal of writing leaves the output.
 abbrev LeavesOut : List ℕ → WriteOutcome → Type 0
-LeavesOut out o = (r : Refusal) → o.answer ≡ writing.Refused r → o.out ≡ out
+LeavesOut out o = (r : Refusal) → o.answer ≡ Err r → o.out ≡ out
 
 leaves_out_if :
     (out : List ℕ) (b : Bool) (r : Refusal) (o : WriteOutcome) → LeavesOut out o
-    → LeavesOut out (cond b (record { answer = writing.Refused r; out = out }) o)
+    → LeavesOut out (cond b (record { answer = Err r; out = out }) o)
 leaves_out_if out true r o h = λ s e. refl
 leaves_out_if out false r o h = h
 
-pub write_leaves : (T : Table) (out : List ℕ) (r : Refusal) → (write T out).answer ≡ writing.Refused r → (write T out).out ≡ out
+pub write_leaves : (T : Table) (out : List ℕ) (r : Refusal) → (write T out).answer ≡ Err r → (write T out).out ≡ out
 unfolding write
 write_leaves T out =
     leaves_out_if out (not (is_plan T)) NotAPlan _

@@ -9,6 +9,7 @@ pub mod FrontLaws
 pub mod DraftValues
 pub mod Trimmed
 pub mod TrimmedLaws
+pub mod Lent
 pub mod LinesLaws
 pub mod SizeLaws
 pub mod NextLineLaws

@@ -1,31 +1,26 @@
 -- Laws of reading a file line by line: where reading stands, and what it has found at the end.
 use Prim.Native.Nat.{ℕ, suc, ◌+◌, ◌-◌, ◌≤◌, ◌<◌}
-use Rattle.std.specs.Prelude.{◌≡◌, refl, List, length, take}
+use Rattle.std.specs.Prelude.{◌≡◌, refl, List, length, take, Err, Ok}
+use Rattle.facts.specs.Filled.{laid}
 use Rattle.std.proofs.Math.Path.{sym, ap}
 use Rattle.std.proofs.Common.{◌∙◌, arith, add-one}
 use borrow.Author.Tests.{eq-eqb, ne_eqb}
-use Rattle.facts.specs.Filled.{laid}
 use Rattle.table.specs.Keys.{no_key}
 use Rattle.table.specs.Table.{Table}
 use Rattle.table.specs.declared.refusal.Refusal.{Refusal}
 use Rattle.table.specs.declared.refusal.Refusal.TheVariants.{NotTheLineDue}
 use Rattle.planfile.specs.declared.due.Due.{Due}
-use Rattle.planfile.specs.declared.read.Judged.{Judged}
-use Rattle.planfile.specs.declared.read.Judged.TheVariants.{Right, Wrong}
 use Rattle.planfile.specs.declared.read.Counts.{Counts}
-use Rattle.planfile.specs.declared.read.Found.{Found}
-use Rattle.planfile.specs.declared.read.Found.TheVariants as found
-use Rattle.planfile.specs.declared.read.Reading.TheVariants.{Read, Refused}
 use Rattle.planfile.specs.Draft.{Draft, blank, advanced}
 use Rattle.planfile.specs.DraftLaws.{Shape, due_there, shape_blank, shape_next}
 use Rattle.planfile.specs.Due.{due_of, begun, past}
 use Rattle.planfile.specs.DueLaws.{Few, due_blank, due_advanced, due_few, value_few}
 use Rattle.planfile.specs.JudgeLaws.{carried, judged_carried, line_right, line_accepted}
-use Rattle.planfile.specs.StoreLaws.{Sized, sized_next, Slots, slots, Kept, kept_of, kept_table}
+use Rattle.planfile.specs.StoreLaws.{Fronts, Sized, sized_next, Slots, slots, Kept, kept_of, kept_table}
 use Rattle.lines.specs.Line.{line_at}
 use Rattle.lines.specs.LineLaws.{line_behind}
 use Rattle.planfile.specs.Reading.{table, refusal, Lists, lists_of, ReadOutcome, judged, held_from, held, laid_over, read_of}
-use Rattle.planfile.specs.Reader.{judgement, stored, found_in}
+use Rattle.planfile.specs.Reader.{Judged, Found, judgement, stored, laid_front, found_in}
 
 module _ (most : ℕ) (file : List ℕ) (place number : ℕ) (d : Draft) where
   -- While a key is due, its line is judged;
@@ -57,7 +52,7 @@ line_judged most file place number d u e h =
 
 end_found :
     (d : Draft) (u : Due) (l : Lists) → u ≡ due_of d → Shape d → d.key ≡ no_key → Kept d.table l
-    → table d.table ≡ found_in (found.Table (record { processors = u.processors; tasks = u.tasks }) u.row) l
+    → table d.table ≡ found_in (Ok (record { processors = u.processors; tasks = u.tasks }, u.row)) l
 unfolding found_in due_of
 end_found d u l e s q k =
     let z = due_there Shape d _ q s in
@@ -108,23 +103,23 @@ module _ {file : List ℕ} {u : Due} {place number : ℕ} {l : Lists} (s : Reach
   reached_slots = rw s.due (slots s.draft l s.shape s.sized)
 
   -- A line that is wrong is the file's refusal;
-  pub reached_refused : {r : Refusal} → u.key < no_key → judgement number u (line_at file place u.key) ≡ Wrong r → held file ≡ refusal r
+  pub reached_refused : {r : Refusal} → u.key < no_key → judgement number u (line_at file place u.key) ≡ Err r → held file ≡ refusal r
   reached_refused h e =
       s.rest ∙ line_judged s.most file place number s.draft u s.due h
       ∙ ap (λ (j : Judged). carried j s.draft (λ behind e. held_from s.most file behind (number + 1) e)) e
 
   -- one that is right ends further on in the file,
-  pub reached_behind : {v behind : ℕ} → judgement number u (line_at file place u.key) ≡ Right v behind → (place < behind) × (behind ≤ length file)
+  pub reached_behind : {v behind : ℕ} → judgement number u (line_at file place u.key) ≡ Ok (v, behind) → (place < behind) × (behind ≤ length file)
   reached_behind {v} {behind} e =
       let r = line_right number u (line_at file place u.key) v behind e in
       rw r.line_is at (line_behind file place u.key)
 
-  pub reached_value : {v behind : ℕ} → judgement number u (line_at file place u.key) ≡ Right v behind → v ≤ 1000000000
+  pub reached_value : {v behind : ℕ} → judgement number u (line_at file place u.key) ≡ Ok (v, behind) → v ≤ 1000000000
   reached_value {v} {behind} e = value_few u v reached_few (line_right number u (line_at file place u.key) v behind e).range
 
   -- and reading goes on behind it;
   pub reached_next :
-      {v behind : ℕ} → u.key < no_key → judgement number u (line_at file place u.key) ≡ Right v behind
+      {v behind : ℕ} → u.key < no_key → judgement number u (line_at file place u.key) ≡ Ok (v, behind)
       → Reached file (past u v) behind (number + 1) (stored u.key u.task u.row v l)
   unfolding advanced
   reached_next {v} {behind} h e =
@@ -151,7 +146,7 @@ module _ {file : List ℕ} {u : Due} {place number : ℕ} {l : Lists} (s : Reach
   reached_more h n = s.rest ∙ held_more s.most file place number s.draft (reached_none h) n
 
   -- and then the table is there.
-  pub reached_end : no_key ≤ u.key → place ≡ length file → held file ≡ found_in (found.Table (record { processors = u.processors; tasks = u.tasks }) u.row) l
+  pub reached_end : no_key ≤ u.key → place ≡ length file → held file ≡ found_in (Ok (record { processors = u.processors; tasks = u.tasks }, u.row)) l
   reached_end h e =
       let q = reached_none h in
       s.rest ∙ held_end s.most file place number s.draft q e ∙ end_found s.draft u l s.due s.shape q s.kept
@@ -164,37 +159,58 @@ reached_same e f s = rw (e, f) s
 
 -- What was found has no more tasks and rows than a plan.
 abbrev pub FewFound : Found → Type 0
-FewFound (found.Table counts rows) = (counts.tasks ≤ 32) × (rows ≤ 128)
-FewFound (found.Refused r) = Unit
+FewFound (Ok (counts, rows)) = (counts.tasks ≤ 32) × (rows ≤ 128)
+FewFound (Err r) = Unit
 
 -- What the file holds was found, with its lists at the front of these.
 pub record FoundIn (file : List ℕ) (f : Found) (l : Lists) : Type 0 where
   pub held_is : held file ≡ found_in f l
   pub few : FewFound f
 
-pub found_refused : {file : List ℕ} {r : Refusal} (l : Lists) → held file ≡ refusal r → FoundIn file (found.Refused r) l
+pub found_refused : {file : List ℕ} {r : Refusal} (l : Lists) → held file ≡ refusal r → FoundIn file (Err r) l
 unfolding found_in
 found_refused l e = record { held_is = e; few = tt }
 
 pub found_table :
     {file : List ℕ} {u : Due} {place number : ℕ} {l : Lists} → Reached file u place number l → no_key ≤ u.key
-    → place ≡ length file → FoundIn file (found.Table (record { processors = u.processors; tasks = u.tasks }) u.row) l
+    → place ≡ length file → FoundIn file (Ok (record { processors = u.processors; tasks = u.tasks }, u.row)) l
 found_table s h e = record { held_is = reached_end s h e; few = ((reached_few s).tasks, (reached_few s).row) }
+
+-- Its entries have a place in them.
+pub found_fronts :
+    {file : List ℕ} {counts : Counts} {rows : ℕ} {l : Lists} → FoundIn file (Ok (counts, rows)) l → Sized l → Fronts counts.tasks rows l
+found_fronts f z =
+    record {
+      period = omega (arith, f.few.0, z.period);
+      deadline = omega (arith, f.few.0, z.deadline);
+      steps = omega (arith, f.few.0, z.steps);
+      processor = omega (arith, f.few.1, z.processor);
+      priority = omega (arith, f.few.1, z.priority);
+      time = omega (arith, f.few.1, z.time);
+    }
 
 -- Lists over which the table that was found is laid are the outcome of reading it;
 pub read_found :
     {file : List ℕ} {counts : Counts} {rows : ℕ} {l : Lists} (m : Lists) {period deadline steps processor priority time : List ℕ}
-    → FoundIn file (found.Table counts rows) l → period ≡ laid (take counts.tasks l.period) m.period
+    → FoundIn file (Ok (counts, rows)) l → period ≡ laid (take counts.tasks l.period) m.period
     → deadline ≡ laid (take counts.tasks l.deadline) m.deadline → steps ≡ laid (take counts.tasks l.steps) m.steps
     → processor ≡ laid (take rows l.processor) m.processor → priority ≡ laid (take rows l.priority) m.priority
     → time ≡ laid (take rows l.time) m.time
-    → ◌≡◌ {A = ReadOutcome} (record { answer = Read counts; lists = lists_of period deadline steps processor priority time }) (read_of (held file) m)
+    → ◌≡◌ {A = ReadOutcome} (record { answer = Ok counts; lists = lists_of period deadline steps processor priority time }) (read_of (held file) m)
 unfolding read_of laid_over found_in
 read_found m f p d s q u t = rw (f.held_is, p, d, s, q, u, t)
 
+-- the same of the lists together,
+pub read_laid :
+    {file : List ℕ} {counts : Counts} {rows : ℕ} {l n : Lists} (m : Lists)
+    → FoundIn file (Ok (counts, rows)) l → n ≡ laid_front counts.tasks rows l m
+    → ◌≡◌ {A = ReadOutcome} (record { answer = Ok counts; lists = n }) (read_of (held file) m)
+unfolding read_of laid_over found_in laid_front
+read_laid m f e = rw (f.held_is, e)
+
 -- a refusal leaves them.
 pub read_refused :
-    {file : List ℕ} {r : Refusal} {l : Lists} (m : Lists) → FoundIn file (found.Refused r) l
-    → ◌≡◌ {A = ReadOutcome} (record { answer = Refused r; lists = m }) (read_of (held file) m)
+    {file : List ℕ} {r : Refusal} {l : Lists} (m : Lists) → FoundIn file (Err r) l
+    → ◌≡◌ {A = ReadOutcome} (record { answer = Err r; lists = m }) (read_of (held file) m)
 unfolding read_of found_in
 read_refused m f = rw f.held_is

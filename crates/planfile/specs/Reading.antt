@@ -1,17 +1,14 @@
 -- Reading a file: its table, or the first line that is wrong (document 01, "The plan on paper" and "Numbers that say no").
-use Rattle.std.specs.Prelude.{ℕ, zero, suc, ◌+◌, Bool, cond, not, ◌&&◌, List, ltb, eqb, length}
+use Rattle.std.specs.Prelude.{ℕ, zero, suc, ◌+◌, Bool, cond, not, ◌&&◌, List, ltb, eqb, length, Err, Ok, Result, Some, None}
 use Rattle.facts.specs.Filled.{laid}
 use Rattle.table.specs.Keys.{steps_key, no_key}
 use Rattle.table.specs.Ranges.{in_range}
 use Rattle.table.specs.Table.{Table, most_rows, long_enough}
 use Rattle.table.specs.declared.refusal.Refusal.{Refusal}
 use Rattle.table.specs.declared.refusal.Refusal.TheVariants.{FileTooLong, NotTheLineDue, OutOfRange, TooManyRows, TooShort}
-use Rattle.lines.specs.declared.line.Line.{Line}
-use Rattle.lines.specs.declared.line.Line.TheVariants.{Value, Fault}
-use Rattle.planfile.specs.declared.read.Reading.{Reading}
-use Rattle.planfile.specs.declared.read.Reading.TheVariants.{Read, Refused}
+use Rattle.planfile.specs.declared.read.Counts.{Counts}
 use Rattle.planfile.specs.Draft.{Draft, blank, rows_asked, own, advanced}
-use Rattle.lines.specs.Line.{line_at}
+use Rattle.lines.specs.Line.{Line, line_at}
 
 -- What a file holds: a table, or a refusal.
 pub data Held : Type 0 where
@@ -24,8 +21,8 @@ too_many d v = eqb d.key steps_key && ltb most_rows (rows_asked d.table + v)
 
 -- A line is judged: 2 for its form, 3 for its range, 4 for the rows it asks for; else reading goes on behind it.
 unfoldable pub judged : ℕ → Draft → Line → (ℕ → Draft → Held) → Held
-judged number d Fault onward = refusal (NotTheLineDue number)
-judged number d (Value v behind) onward =
+judged number d None onward = refusal (NotTheLineDue number)
+judged number d (Some (v, behind)) onward =
     cond (not (in_range d.key (own d) v)) (refusal (OutOfRange number))
     (cond (too_many d v) (refusal (TooManyRows number))
     (onward behind (advanced d v)))
@@ -69,7 +66,7 @@ lists_of period deadline steps processor priority time = record {
 
 -- The answer of reading and the lists as they then are.
 pub record ReadOutcome : Type 0 where
-  pub answer : Reading
+  pub answer : Result Counts Refusal
   pub lists : Lists
 
 -- The table's entries over the front of the lists; the rest stays.
@@ -85,13 +82,13 @@ laid_over T l = record {
 
 -- A file's table is answered by its counts and fills the lists; a refusal leaves them.
 unfoldable pub read_of : Held → Lists → ReadOutcome
-read_of (table T) l = record { answer = Read (record { processors = T.processors; tasks = T.tasks }); lists = laid_over T l }
-read_of (refusal r) l = record { answer = Refused r; lists = l }
+read_of (table T) l = record { answer = Ok (record { processors = T.processors; tasks = T.tasks }); lists = laid_over T l }
+read_of (refusal r) l = record { answer = Err r; lists = l }
 
 -- Reading: 7 (room for 128 rows, then for 32 tasks), 1, then line by line 2, 3, 4.
 unfoldable pub read : List ℕ → Lists → ReadOutcome
 read file l =
-    cond (not (long_enough 128 l.processor l.priority l.time)) (record { answer = Refused (TooShort 128); lists = l })
-    (cond (not (long_enough 32 l.period l.deadline l.steps)) (record { answer = Refused (TooShort 32); lists = l })
-    (cond (ltb most_bytes (length file)) (record { answer = Refused FileTooLong; lists = l })
+    cond (not (long_enough 128 l.processor l.priority l.time)) (record { answer = Err (TooShort 128); lists = l })
+    (cond (not (long_enough 32 l.period l.deadline l.steps)) (record { answer = Err (TooShort 32); lists = l })
+    (cond (ltb most_bytes (length file)) (record { answer = Err FileTooLong; lists = l })
     (read_of (held file) l)))

@@ -1,6 +1,7 @@
 -- Laws of storing the value of the line due: there is a place for it, and the lists keep the table's at their fronts.
-use Rattle.std.specs.Prelude.{ℕ, suc, ◌<◌, ◌≡◌, refl, Bool, true, false, List, [], ◌∷◌, ◌++◌, eqb, length, take}
-use Rattle.std.proofs.Common.{sym, ◌∙◌, ap, arith, ne_eqb, eqb-true, length-append, length-set, take-suc-set}
+use Rattle.std.specs.Prelude.{ℕ, suc, ◌<◌, ◌≤◌, ◌≡◌, ◌≢◌, set, drop, refl, Bool, true, false, List, [], ◌∷◌, ◌++◌, eqb, length, take}
+use Rattle.std.proofs.Common.{sym, ◌∙◌, ap, arith, ne_eqb, eqb-true, length-append, length-set, length-take-le, take-suc-set}
+use Rattle.facts.specs.Filled.{laid}
 use Rattle.table.specs.Keys.{period_key, deadline_key, steps_key, processor_key, priority_key, time_key}
 use Rattle.table.specs.Table.{Table, table_of}
 use Rattle.planfile.specs.declared.due.Due.{Due}
@@ -146,3 +147,51 @@ kept_table T l row k p d s q u t =
 pub kept_of : (d : Draft) (u : Due) (v : ℕ) (l : Lists) → u ≡ due_of d → Shape d → Sized l → Kept d.table l → Kept (placed d.key v d.table) (stored u.key u.task u.row v l)
 unfolding due_of
 kept_of d u v l e s z k = rw e (kept_next d v l s z k)
+
+-- A list's first entries, as a copy into the front of another leaves it.
+pub laid_copied :
+    (from over copy : List ℕ) (n : ℕ) → n ≤ length from → copy ≡ take n from → copy ++ drop n over ≡ laid (take n from) over
+laid_copied from over copy n h e = rw (e, length-take-le n from h) refl
+
+-- So many tasks and rows have a place in the lists.
+pub record Fronts (tasks rows : ℕ) (l : Lists) : Type 0 where
+  pub period : tasks ≤ length l.period
+  pub deadline : tasks ≤ length l.deadline
+  pub steps : tasks ≤ length l.steps
+  pub processor : rows ≤ length l.processor
+  pub priority : rows ≤ length l.priority
+  pub time : rows ≤ length l.time
+
+-- The value of each key in its list.
+module _ (key task row v : ℕ) (l : Lists) where
+  pub stored_period : key ≡ period_key → record l { period = set l.period task v } ≡ stored key task row v l
+  unfolding stored stored_if
+  stored_period e = rw e refl
+
+  pub stored_deadline : key ≡ deadline_key → record l { deadline = set l.deadline task v } ≡ stored key task row v l
+  unfolding stored stored_if
+  stored_deadline e = rw e refl
+
+  pub stored_steps : key ≡ steps_key → record l { steps = set l.steps task v } ≡ stored key task row v l
+  unfolding stored stored_if
+  stored_steps e = rw e refl
+
+  pub stored_processor : key ≡ processor_key → record l { processor = set l.processor row v } ≡ stored key task row v l
+  unfolding stored stored_if
+  stored_processor e = rw e refl
+
+  pub stored_priority : key ≡ priority_key → record l { priority = set l.priority row v } ≡ stored key task row v l
+  unfolding stored stored_if
+  stored_priority e = rw e refl
+
+  pub stored_time : key ≡ time_key → record l { time = set l.time row v } ≡ stored key task row v l
+  unfolding stored stored_if
+  stored_time e = rw e refl
+
+  -- Any other key has none.
+  pub stored_nowhere :
+      key ≢ period_key → key ≢ deadline_key → key ≢ steps_key → key ≢ processor_key → key ≢ priority_key → key ≢ time_key
+      → l ≡ stored key task row v l
+  unfolding stored stored_if
+  stored_nowhere a b c d e f =
+      rw (ne_eqb _ _ a, ne_eqb _ _ b, ne_eqb _ _ c, ne_eqb _ _ d, ne_eqb _ _ e, ne_eqb _ _ f) refl

@@ -1,6 +1,6 @@
 -- Reading a file gives its verdict, and no other.
 use Prim.Native.Nat.{ℕ, zero, suc, ◌+◌, ◌-◌, ◌≤◌, ◌<◌}
-use Rattle.std.specs.Prelude.{◌≡◌, refl, ◌↔◌, Bool, true, false, List, eqb}
+use Rattle.std.specs.Prelude.{◌≡◌, refl, ◌↔◌, Bool, true, false, List, eqb, Some, None}
 use Rattle.std.proofs.Common.{sym, ◌∙◌, zero-add}
 use Rattle.std.proofs.Math.Path.{ap}
 use native.Mathlib.Omega.{arith}
@@ -9,10 +9,8 @@ use Rattle.std.proofs.Math.ListN.{length}
 use Rattle.table.specs.Keys.{no_key}
 use Rattle.table.specs.Ranges.{in_range}
 use Rattle.table.specs.declared.refusal.Refusal.TheVariants.{NotTheLineDue, OutOfRange, TooManyRows}
-use Rattle.lines.specs.declared.line.Line.{Line}
-use Rattle.lines.specs.declared.line.Line.TheVariants.{Value, Fault}
 use Rattle.planfile.specs.Draft.{Draft, blank, own, advanced}
-use Rattle.lines.specs.Line.{line_at}
+use Rattle.lines.specs.Line.{Line, line_at}
 use Rattle.planfile.specs.Reading.{Held, table, refusal, too_many, judged, held_from, held}
 use Rattle.lines.specs.LineTextLaws.{line_read, line_found, stands_within, fault_of, fault_none}
 use Rattle.lines.specs.LineStands.{LineStands}
@@ -48,7 +46,7 @@ module _ (file : List ℕ) where
       unfolding held_from
       held_line = rw (ne_eqb _ _ due)
 
-      held_fault : line_at file place d.key ≡ Fault → held_from (suc most) file place number d ≡ refusal (NotTheLineDue number)
+      held_fault : line_at file place d.key ≡ None → held_from (suc most) file place number d ≡ refusal (NotTheLineDue number)
       unfolding judged
       held_fault e = held_line ∙ rw e
 
@@ -127,8 +125,8 @@ module _ (file : List ℕ) where
       there v behind s false r = rw (held_outside most (suc k) place d due v behind s r) (out_of_range v behind right due s r)
 
       go : (l : Line) → line_at file place d.key ≡ l → Judged
-      go Fault e = rw (held_fault most (suc k) place d due e) (not_due right due (fault_none file place d.key e))
-      go (Value v behind) e = there v behind (line_found file place d.key v behind e) (in_range d.key (own d) v) refl
+      go None e = rw (held_fault most (suc k) place d due e) (not_due right due (fault_none file place d.key e))
+      go (Some (v, behind)) e = there v behind (line_found file place d.key v behind e) (in_range d.key (own d) v) refl
 
   verdict_from :
       (most k place : ℕ) (d : Draft) → RightLines file k place d → length file < k + most

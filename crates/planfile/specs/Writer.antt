@@ -2,6 +2,11 @@
 use Rattle.std.specs.Prelude.{ℕ, ◌+◌, List, [], ◌∷◌, get_or}
 use Rattle.table.specs.Table.{Table, at}
 use Rattle.planfile.specs.declared.due.Due.{Due}
+use Rattle.planfile.specs.Reading.{Lists, lists_of}
+
+-- The six lists of a table.
+abbrev pub lists_held : Table → Lists
+lists_held T = lists_of T.period T.deadline T.steps T.processor T.priority T.time
 
 -- The values that the table has for the keys, by their numbers, at the task or the row that is given.
 unfoldable pub values_due : Table → Due → List ℕ

@@ -1,6 +1,6 @@
 -- Laws of the steps of writing a file.
 use Prim.Native.Nat.{ℕ, suc, ◌+◌, ◌*◌, ◌-◌, ◌≤◌, ◌<◌}
-use Rattle.std.specs.Prelude.{◌≡◌, refl, true, false, get_or, take}
+use Rattle.std.specs.Prelude.{◌≡◌, refl, true, false, get_or, take, Err, Ok}
 use Rattle.std.proofs.Math.Path.{sym, ap}
 use Rattle.std.proofs.Common.{◌∙◌, arith, length-append, take-append-drop}
 use mathlib.Core.List.{List, [], ◌∷◌, ◌++◌, append_assoc, append-nil}
@@ -13,7 +13,6 @@ use Rattle.text.specs.Text.{Written, appended}
 use Rattle.text.specs.TextLaws.{Holds, holds_none, holds_more, Placed, placed}
 use Rattle.planfile.specs.declared.due.Due.{Due}
 use Rattle.table.specs.declared.refusal.Refusal.TheVariants.{NotAPlan, TooShort}
-use Rattle.planfile.specs.declared.write.Writing.TheVariants.{Bytes, Refused}
 use Rattle.lines.specs.Words.{line_of}
 use Rattle.planfile.specs.Draft.{Draft, blank, own, advanced}
 use Rattle.planfile.specs.DraftLaws.{Shape, own_most, shape_blank, shape_next, lines_so_far, lines_next, draft_of, due_there}
@@ -213,14 +212,14 @@ appended_laid bs l {w} e h =
 
 -- The outcomes of writing: no plan,
 module _ (T : Table) (out : List ℕ) where
-  pub write_no_plan : is_plan T ≡ false → ◌≡◌ {A = WriteOutcome} (record { answer = Refused NotAPlan; out = out }) (write T out)
+  pub write_no_plan : is_plan T ≡ false → ◌≡◌ {A = WriteOutcome} (record { answer = Err NotAPlan; out = out }) (write T out)
   unfolding write
   write_no_plan e = rw e
 
   -- an output too short for the text,
   pub write_short :
       {w : Written} → is_plan T ≡ true → Holds (file_of T) 8192 w → length out < w.end
-      → ◌≡◌ {A = WriteOutcome} (record { answer = Refused (TooShort w.end); out = out }) (write T out)
+      → ◌≡◌ {A = WriteOutcome} (record { answer = Err (TooShort w.end); out = out }) (write T out)
   unfolding write
   write_short e h short =
       let short' : length out < length (file_of T) = omega (arith, h.end) in
@@ -230,9 +229,28 @@ module _ (T : Table) (out : List ℕ) where
   pub write_done :
       {w x : Written} → is_plan T ≡ true → Holds (file_of T) 8192 w → w.end ≤ length out
       → x ≡ appended (take w.end w.list) out 0
-      → ◌≡◌ {A = WriteOutcome} (record { answer = Bytes w.end; out = x.list }) (write T out)
+      → ◌≡◌ {A = WriteOutcome} (record { answer = Ok w.end; out = x.list }) (write T out)
   unfolding write
   write_done {w} {x} e h fits f =
       let fits' : length (file_of T) ≤ length out = omega (arith, h.end) in
       let there = appended_laid (file_of T) out (f ∙ ap (λ (b : List ℕ). appended b out 0) h.front) fits' in
       rw (e, le-ltb _ _ fits', h.end, there)
+
+  -- The same of a text whose first n bytes are the file.
+  pub text_short :
+      (n : ℕ) → is_plan T ≡ true → n ≡ length (file_of T) → length out < n
+      → ◌≡◌ {A = WriteOutcome} (record { answer = Err (TooShort n); out = out }) (write T out)
+  unfolding write
+  text_short n e h short =
+      let short' : length out < length (file_of T) = omega arith in
+      rw (e, lt-ltb _ _ short', h)
+
+  pub text_done :
+      (n end : ℕ) (text new : List ℕ) → is_plan T ≡ true → n ≡ length (file_of T) → take n text ≡ file_of T → n ≤ length out
+      → ◌≡◌ {A = Written} (record { list = new; end = end }) (appended (take n text) out 0)
+      → ◌≡◌ {A = WriteOutcome} (record { answer = Ok n; out = new }) (write T out)
+  unfolding write
+  text_done n end text new e h f fits g =
+      let fits' : length (file_of T) ≤ length out = omega arith in
+      let there = appended_laid (file_of T) out (g ∙ ap (λ (b : List ℕ). appended b out 0) f) fits' in
+      rw (e, le-ltb _ _ fits', h, there)

@@ -7,6 +7,7 @@ ghost use Rattle.planfile.specs.DueLaws.{Few};
 use table::keys;
 
 // The key due and the counts so far: processors, tasks, tasks with a `steps` line, rows with a `time` line, rows asked for.
+// No ghost field for `Few`: the definitions `begun` and `past` build a `Due` of numbers alone, and `past` from any value.
 #[derive(Clone, Copy)]
 pub struct Due {
     pub key: usize,
@@ -32,23 +33,27 @@ pub(crate) fn first() -> Due
 }
 
 // The plan's own number for the range of the key due.
-pub(crate) fn own_number(due: Due) -> u64
-    requires { Few due }
-    ensures { result ≡ own_number due }
+// The key stands beside `due`, here and below: reading gives a constant, so that each key's line is compiled by itself.
+#[inline(always)]
+#[tactic(auto, unfolding(crate::specs::Due::own_number))]
+pub(crate) fn own_number(key: usize, due: &Due) -> u64
+    requires { Few due.now × (key ≡ due.now.key) }
+    ensures { result ≡ own_number due.now }
 {
-    if due.key == keys::TASK {
+    if key == keys::TASK {
         return due.task + 1;
     }
     due.processors
 }
 
 // What is due behind the line with this value.
-pub(crate) fn advance(due: Due, value: u64) -> Due
-    requires { Few due × (value ≤ 1000000000) }
-    ensures { result ≡ past due value }
+#[inline(always)]
+#[tactic(auto, unfolding(crate::specs::Due::past, crate::specs::Due::keyed, crate::specs::Due::counted))]
+pub(crate) fn advance(key: usize, due: &Due, value: u64) -> Due
+    requires { Few due.now × (value ≤ 1000000000) × (key ≡ due.now.key) }
+    ensures { result ≡ past due.now value }
 {
-    let mut next = due;
-    let key = due.key;
+    let mut next = *due;
     match key {
         keys::PROCESSORS => {
             next.processors = value;
@@ -65,18 +70,18 @@ pub(crate) fn advance(due: Due, value: u64) -> Due
         }
         _ => {}
     }
-    let following = next_key(next);
-    next.key = following;
+    next.key = next_key(key, &next);
     next
 }
 
 // The key that follows: after a row's `time` the task's next row, else the next task, else none; after any other key the
 // next in order.
-fn next_key(due: Due) -> usize
-    requires { due.key ≤ 10 }
-    ensures { result ≡ next_key due }
+#[inline(always)]
+#[tactic(auto, unfolding(crate::specs::Due::next_key))]
+fn next_key(key: usize, due: &Due) -> usize
+    requires { (due.now.key ≤ 10) × (key ≡ due.now.key) }
+    ensures { result ≡ next_key due.now }
 {
-    let key = due.key;
     match key {
         keys::TIME => {
             if due.row < due.asked {

@@ -2,5 +2,6 @@
 #![tactic(auto)]
 
 mod due;
+pub mod lists;
 pub mod read;
 pub mod write;

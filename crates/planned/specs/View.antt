@@ -1,15 +1,14 @@
 -- The outcome of viewing a table's rows: how many there are, each row's period, and whether it is the first of its chain.
-use Rattle.std.specs.Prelude.{ℕ, Bool, cond, ◌&&◌, List, leb, length}
+use Rattle.std.specs.Prelude.{ℕ, Bool, cond, ◌&&◌, List, leb, length, Err, Ok, Result}
 use Rattle.facts.specs.Filled.{filled}
-use Rattle.planned.specs.declared.plan.View.{View}
-use Rattle.planned.specs.declared.plan.View.TheVariants.{Rows, Refused}
+use Rattle.table.specs.declared.refusal.Refusal.{Refusal}
 use Rattle.table.specs.declared.refusal.Refusal.TheVariants.{NotAPlan, TooShort}
 use Rattle.table.specs.Table.{Table, rows, is_plan}
 use Rattle.table.specs.Plan.{plan_of}
 
 -- The answer and the two lists as they then are.
 pub record Viewed : Type 0 where
-  pub answer : View
+  pub answer : Result ℕ Refusal
   pub period : List ℕ
   pub first : List Bool
 
@@ -19,6 +18,6 @@ unfoldable pub viewed : Table → List ℕ → List Bool → Viewed
 viewed T period first =
     cond (is_plan T)
     (cond (leb (rows T) (length period) && leb (rows T) (length first))
-    (record { answer = Rows (rows T); period = filled (plan_of T).period (rows T) period; first = filled (plan_of T).first (rows T) first })
-    (record { answer = Refused (TooShort (rows T)); period = period; first = first }))
-    (record { answer = Refused NotAPlan; period = period; first = first })
+    (record { answer = Ok (rows T); period = filled (plan_of T).period (rows T) period; first = filled (plan_of T).first (rows T) first })
+    (record { answer = Err (TooShort (rows T)); period = period; first = first }))
+    (record { answer = Err NotAPlan; period = period; first = first })

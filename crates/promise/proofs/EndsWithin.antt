@@ -9,7 +9,7 @@ use Rattle.table.specs.Plan.{plan_of}
 use Rattle.table.specs.PlanLaws.{right_of, first_row_suc, first_row_mono}
 use Rattle.planned.specs.ViewLaws.{inside_first}
 use Rattle.guards.specs.declared.state.State.{State}
-use Rattle.guards.specs.declared.state.Outcome.{Outcome}
+use Rattle.guards.specs.Outcome.{Outcome}
 use Rattle.guards.specs.Moment.{Moment, moment_of, state_with}
 use Rattle.guards.specs.Machine.{start, arrived}
 use Rattle.guards.specs.SeamLaws.{arrived_is}

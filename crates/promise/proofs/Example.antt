@@ -1,5 +1,5 @@
 -- The promise at work: document 01's plan and a lighter one, with runs of both, all by computation.
-use Rattle.std.specs.Prelude.{ℕ, ◌≤◌, ◌<◌, ◌≡◌, refl, true, List, [], ◌∷◌, leb, ltb, eqb}
+use Rattle.std.specs.Prelude.{ℕ, ◌≤◌, ◌<◌, ◌≡◌, refl, true, List, [], ◌∷◌, leb, ltb, eqb, Ok}
 use Rattle.std.proofs.Common.{arith, ltb-true, leb-true, eqb-true}
 use Rattle.facts.specs.Sums.{sum, sum_if}
 use Rattle.facts.specs.Tests.{all, lowest}
@@ -16,7 +16,6 @@ use Rattle.equations.specs.Row.{work, work_to, RowBounds}
 use Rattle.equations.specs.RowTest.{found, settled, worst, all_settled, row_test, row_test_sound}
 use Rattle.equations.specs.Beside.{level, beside, demand, row_of}
 use Rattle.equations.specs.BesideLaws.{proper_of}
-use Rattle.bounds.specs.declared.Bounded.TheVariants.{Verdict}
 use Rattle.bounds.specs.Bounds.{limit, equations, chain_bound, slack_of, accepted, needed, filled_in, Bounding}
 use Rattle.bounds.specs.NoHarder.{NoHarder}
 use Rattle.guards.specs.Moment.{moment_of, state_with}
@@ -55,7 +54,7 @@ paper_rows r l =
     (all_at 4 (λ r. row_test (equations paper_plan r) 9 (paper_numbers.busy r) (paper_numbers.instances r) (paper_numbers.bound r)) refl r l)
 
 -- The bounds of document 01's plan are given, and it is accepted.
-pub paper_bounds : Bounding paper_plan lent (filled_in paper_plan paper_numbers lent) (Verdict 1)
+pub paper_bounds : Bounding paper_plan lent (filled_in paper_plan paper_numbers lent) (Ok 1)
 unfolding paper_plan paper_numbers lent needed long_enough accepted slack_of chain_bound in_force filled_in rows first_row all sum tab
 paper_bounds = (
   plans.0,

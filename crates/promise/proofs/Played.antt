@@ -7,7 +7,7 @@ use Rattle.table.specs.Table.{Table, first_row, rows, is_plan}
 use Rattle.table.specs.TableLaws.{checked}
 use Rattle.table.specs.Plan.{plan_of}
 use Rattle.guards.specs.declared.state.State.{State}
-use Rattle.guards.specs.declared.state.Outcome.{Outcome}
+use Rattle.guards.specs.Outcome.{Outcome}
 use Rattle.guards.specs.Moment.{Moment, moment_of, state_with}
 use Rattle.guards.specs.Machine.{start, arrived, ticked, before_release, let_go, opened, worked}
 use Rattle.guards.specs.SeamLaws.{arrived_is, ticked_is}

@@ -4,7 +4,7 @@ use Rattle.std.proofs.Common.{sym, ◌∙◌, ap, arith}
 use Rattle.facts.specs.TestsLaws.{clash}
 use Rattle.table.specs.Table.{Table}
 use Rattle.guards.specs.declared.state.State.{State}
-use Rattle.guards.specs.declared.state.Outcome.{Outcome}
+use Rattle.guards.specs.Outcome.{Outcome}
 use Rattle.guards.specs.Calls.{TickOutcome}
 use Rattle.guards.specs.TakenLaws.{Arriving, arrive_is, Ticking, tick_is}
 use Rattle.promise.specs.Promise.{Call, outcome_of, is_taken, after, ticks_by, ticks_taken}

@@ -1,5 +1,5 @@
 -- Demand 3, proved.
-use Rattle.std.specs.Prelude.{ℕ, pred, ◌≤◌, ◌<◌, ◌≡◌, refl, Bool, true, false, pos}
+use Rattle.std.specs.Prelude.{ℕ, pred, ◌≤◌, ◌<◌, ◌≡◌, refl, Bool, true, false, pos, Ok}
 use Rattle.std.proofs.Common.{sym, ◌∙◌, arith, leb-true}
 use Rattle.std.specs.Int.Signed.{le_z}
 use Rattle.facts.specs.TestsLaws.{all_at}
@@ -9,7 +9,6 @@ use Rattle.table.specs.TableLaws.{checked}
 use Rattle.table.specs.Plan.{plan_of, in_force}
 use Rattle.table.specs.PlanLaws.{right_of}
 use Rattle.equations.specs.Safe.{bounds_safe}
-use Rattle.bounds.specs.declared.Bounded.TheVariants.{Verdict}
 use Rattle.bounds.specs.SlackLaws.{less_sign}
 use Rattle.bounds.specs.Bounds.{Numbers, Analysis, chain_bound, slack_of, accepted, Lists, filled_in, Given, Bounding}
 use Rattle.bounds.specs.NoHarder.{NoHarder}
@@ -41,7 +40,7 @@ chain_listed {T} {before} g i l = rw g.lists (get_d_filled (chain_bound T g.numb
 -- Demand 3: table Q is a plan and no harder than table P, whose bounds are given.
 pub promise :
     (P Q : Table) → is_plan Q ≡ true → NoHarder P Q → (before after : Lists) (answer : ℕ)
-    → Bounding P before after (Verdict answer) → Promised P Q after answer
+    → Bounding P before after (Ok answer) → Promised P Q after answer
 unfolding plan_of chain_bound
 promise P Q plan h before after answer b = record {
   no_larger = no_harder P Q h before after answer b plan;
@@ -80,6 +79,6 @@ no_harder_self P = record {
 }
 
 pub own_bounds :
-    (P : Table) (before after : Lists) (answer : ℕ) → Bounding P before after (Verdict answer)
+    (P : Table) (before after : Lists) (answer : ℕ) → Bounding P before after (Ok answer)
     → Promised P P after answer
 own_bounds P before after answer b = promise P P b.0 (no_harder_self P) before after answer b

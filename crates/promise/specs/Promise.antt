@@ -1,16 +1,13 @@
 -- What is promised of every run (demand 3): the calls of a run, the state after them and the ticks among them, in the very
 -- outcomes that the contracts of the guards name.
-use Rattle.std.specs.Prelude.{ℕ, suc, pred, ◌+◌, ◌≤◌, ◌≡◌, Bool, true, false, cond, List, [], ◌∷◌}
+use Rattle.std.specs.Prelude.{ℕ, suc, pred, ◌+◌, ◌≤◌, ◌≡◌, Bool, true, false, cond, List, [], ◌∷◌, Err, Ok, Result}
+use Rattle.table.specs.declared.refusal.Refusal.{Refusal}
 use Rattle.table.specs.Table.{Table, at, first_row}
 use Rattle.table.specs.Plan.{in_force}
-use Rattle.bounds.specs.declared.Bounded.{Bounded}
-use Rattle.bounds.specs.declared.Bounded.TheVariants.{Verdict}
 use Rattle.bounds.specs.Bounds.{Lists, needed, Bounding}
 use Rattle.bounds.specs.NoHarder.{NoLarger}
 use Rattle.guards.specs.declared.state.State.{State}
-use Rattle.guards.specs.declared.state.Answer.{Answer}
-use Rattle.guards.specs.declared.state.Answer.TheVariants.{Taken, Refused}
-use Rattle.guards.specs.declared.state.Outcome.{Outcome}
+use Rattle.guards.specs.Outcome.{Outcome}
 use Rattle.guards.specs.Calls.{fresh_start, arrive, tick}
 
 -- A call: the arrival of a task, by its number; or a tick with its done list and the release list lent to it.
@@ -24,9 +21,9 @@ outcome_of T σ (arrival task) = arrive T σ task
 outcome_of T σ (clock_tick done released) = (tick T σ done released).outcome
 
 -- The answer is not a refusal.
-unfoldable pub is_taken : Answer → Bool
-is_taken (Taken number) = true
-is_taken (Refused refusal) = false
+unfoldable pub is_taken : Result ℕ Refusal → Bool
+is_taken (Ok number) = true
+is_taken (Err refusal) = false
 
 -- The state after a list of calls, refused ones included.
 unfoldable pub after : Table → State → List Call → State
@@ -63,8 +60,8 @@ pub record Promised (P Q : Table) (lists : Lists) (answer : ℕ) : Type 0 where
   -- The first half: on lists that are long enough Q's bounds are given too, none larger and no slack smaller, and Q is
   -- accepted if P is.
   pub no_larger :
-      (before after : Lists) → needed Q before ≡ 0 → (outcome : Bounded) → Bounding Q before after outcome
-      → (own : ℕ) × (outcome ≡ Verdict own) × NoLarger P lists after × (answer ≡ 1 → own ≡ 1)
+      (before after : Lists) → needed Q before ≡ 0 → (outcome : Result ℕ Refusal) → Bounding Q before after outcome
+      → (own : ℕ) × (outcome ≡ Ok own) × NoLarger P lists after × (answer ≡ 1 → own ≡ 1)
   -- The second half: every instance of a task of Q ends within the bound of P's chain.
   pub in_time : (task : ℕ) → EndsWithin Q task (at lists.chain (pred task))
   -- So where P is accepted, every instance of a task of Q ends within its deadline in force.

@@ -1,18 +1,17 @@
 -- A call on byte lists: one that isn't tried, and one that is.
-use Rattle.std.specs.Prelude.{ℕ, ◌≡◌, false, List, length}
+use Rattle.std.specs.Prelude.{ℕ, ◌≡◌, false, List, length, Err}
 use Rattle.std.proofs.Math.Path.{refl}
 use Rattle.std.proofs.Common.{◌∙◌, ap}
 use Rattle.table.specs.Table.{Table, is_plan}
 use Rattle.table.specs.declared.refusal.Refusal.TheVariants.{NotAPlan}
 use Rattle.guards.specs.declared.state.State.{State}
-use Rattle.guards.specs.declared.state.Answer.TheVariants.{Refused}
-use Rattle.guards.specs.declared.state.Outcome.{Outcome}
+use Rattle.guards.specs.Outcome.{Outcome}
 use Rattle.guards.specs.StateLaws.{Sizes}
 use Rattle.guards.specs.Lent.{on_lists, tick_on_lists}
 use Rattle.guards.specs.LentLaws.{lent_sized, tick_lent_sized}
 use Rattle.guards.specs.Calls.{fresh_start, arrive, tick, TickOutcome}
-use Rattle.rack.specs.declared.calls.Call.{Call}
-use Rattle.rack.specs.declared.calls.Call.TheVariants.{Fresh, Arrive, Tick}
+use Rattle.rack.specs.declared.call.Call.{Call}
+use Rattle.rack.specs.declared.call.Call.TheVariants.{Fresh, Arrive, Tick}
 use Rattle.rack.specs.Layouts.{table_bytes, state_bytes, table_in, rows_in, state_in}
 use Rattle.rack.specs.RackCalls.{StateOutcome, RackTickOutcome, tried, kept_in, called, called_in, rack_call, rack_fresh, rack_arrive, guarded}
 use Rattle.rack.specs.GuardedLaws.{call_kept, released_stays, released_kept}
@@ -36,7 +35,7 @@ called_on_is call T n state done released eσ et eo = rw (eo, et, eσ)
 
 module _ (done released : List ℕ) where
   -- A call on a table that is no plan is refused and leaves the release list.
-  no_plan : (call : Call) (T : Table) (σ : State) → is_plan T ≡ false → (called call T σ done released).outcome.answer ≡ Refused NotAPlan
+  no_plan : (call : Call) (T : Table) (σ : State) → is_plan T ≡ false → (called call T σ done released).outcome.answer ≡ Err NotAPlan
   unfolding called fresh_start arrive tick
   no_plan Fresh T σ e = rw e
   no_plan (Arrive task) T σ e = rw e

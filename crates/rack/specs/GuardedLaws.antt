@@ -1,5 +1,5 @@
 -- When a call on byte lists is tried, and what comes out where it isn't.
-use Rattle.std.specs.Prelude.{ℕ, ◌≡◌, Bool, ◌&&◌, List, eqb, length}
+use Rattle.std.specs.Prelude.{ℕ, ◌≡◌, Bool, ◌&&◌, List, eqb, length, Err}
 use Rattle.std.proofs.Math.Path.{refl, sym}
 use Rattle.std.proofs.Common.{◌∙◌}
 use Rattle.std.proofs.Math.Bool.{true, false, cond}
@@ -7,8 +7,7 @@ use borrow.Author.Tests.{eq-eqb, ne_eqb}
 use Rattle.table.specs.Table.{Table, is_plan}
 use Rattle.table.specs.declared.refusal.Refusal.TheVariants.{NotAPlan, StateDoesNotFit}
 use Rattle.guards.specs.declared.state.State.{State}
-use Rattle.guards.specs.declared.state.Answer.TheVariants.{Refused}
-use Rattle.guards.specs.declared.state.Outcome.{Outcome}
+use Rattle.guards.specs.Outcome.{Outcome}
 use Rattle.rack.specs.declared.answer.RackAnswer.{RackAnswer}
 use Rattle.rack.specs.Layouts.{table_bytes, state_bytes, table_in, rows_in, state_in}
 use Rattle.rack.specs.RackCalls.{StateOutcome, refused_as, kept_in, holds_plan, tried, guarded}
@@ -50,7 +49,7 @@ module _ (table state : List ℕ) where
       yes false = refl
 
   pub outcome_kept : (o : Outcome) {x : StateOutcome} → length table ≡ table_bytes → length state ≡ state_bytes
-      → (is_plan (table_in table) ≡ false → o.answer ≡ Refused NotAPlan)
+      → (is_plan (table_in table) ≡ false → o.answer ≡ Err NotAPlan)
       → x ≡ kept_in (rows_in table) state o → x ≡ guarded table state (kept_in (rows_in table) state o)
   unfolding guarded holds_plan
   outcome_kept o {x} t s unless e = by (is_plan (table_in table)) refl
@@ -63,7 +62,7 @@ module _ (table state : List ℕ) where
   -- A call tried on the table and state that the lists hold, said of any call that refuses what is no plan.
   pub call_kept : (call : Table → State → Outcome) {n : ℕ} {T : Table} {σ : State} {o : Outcome} {x : StateOutcome}
       → length table ≡ table_bytes → length state ≡ state_bytes
-      → ((T : Table) (σ : State) → is_plan T ≡ false → (call T σ).answer ≡ Refused NotAPlan)
+      → ((T : Table) (σ : State) → is_plan T ≡ false → (call T σ).answer ≡ Err NotAPlan)
       → n ≡ rows_in table → T ≡ table_in table → σ ≡ state_in n state → o ≡ call T σ → x ≡ kept_in n state o
       → x ≡ guarded table state (kept_in (rows_in table) state (call (table_in table) (state_in (rows_in table) state)))
   call_kept call t s unless en eT eσ eo ex =

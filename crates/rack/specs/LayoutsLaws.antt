@@ -1,6 +1,7 @@
 -- Laws of the layouts: parts put together are the whole.
-use Rattle.std.specs.Prelude.{ℕ, min, ◌≡◌, List, length, replicate}
+use Rattle.std.specs.Prelude.{ℕ, min, ◌≡◌, List, length, replicate, Err, Ok, Result}
 use Rattle.std.proofs.Common.{◌∙◌, ap}
+use Rattle.std.proofs.Math.Path.{refl}
 use Rattle.facts.specs.Sums.{sum}
 use Rattle.words.specs.Words.{word, with_word, gathered, with_field}
 use Rattle.words.specs.FieldsLaws.{length_gathered}
@@ -9,14 +10,10 @@ use Rattle.table.specs.Table.{Table, table_of, at}
 use Rattle.table.specs.Refusals.{number_of, place_of}
 use Rattle.guards.specs.declared.state.State.{State}
 use Rattle.guards.specs.StateLaws.{Sizes}
-use Rattle.guards.specs.declared.state.Answer.TheVariants.{Taken, Refused}
-use Rattle.guards.specs.declared.state.Outcome.{Outcome}
+use Rattle.guards.specs.Outcome.{Outcome}
 use Rattle.rack.specs.declared.answer.RackAnswer.{RackAnswer}
 use Rattle.rack.specs.Layouts.{tasks_in, task_field, rows_in, row_field, table_in, state_in, with_state}
 use Rattle.rack.specs.RackCalls.{StateOutcome, PlanReported, refused_as, reported_as, answered_as, list_after, kept_in}
-use Rattle.report.specs.declared.Reporting.{Reporting}
-use Rattle.report.specs.declared.Reporting.TheVariants.{Bytes}
-use Rattle.report.specs.declared.Reporting.TheVariants as reporting
 use Rattle.report.specs.Reporting.{FileReported}
 
 -- The rows of a table that a list has room for.
@@ -120,22 +117,32 @@ pub state_kept : (n : ℕ) (σ : State) (l : List ℕ) {l₁ l₂ l₃ l₄ l₅
 unfolding with_state
 state_kept n σ l a b c d e = rw (e, d, c, b, a)
 
-pub taken_kept : (n value : ℕ) (o : Outcome) (l : List ℕ) {written : List ℕ} → o.answer ≡ Taken value → written ≡ with_state n o.state l
+pub taken_kept : (n value : ℕ) (o : Outcome) (l : List ℕ) {written : List ℕ} → o.answer ≡ Ok value → written ≡ with_state n o.state l
     → ◌≡◌ {A = StateOutcome} (record { answer = record { number = 0; value = value }; state = written }) (kept_in n l o)
 unfolding kept_in answered_as list_after
 taken_kept n value o l e f = rw (e, f)
 
-pub refused_kept : (n : ℕ) (refusal : Refusal) (o : Outcome) {l : List ℕ} {a : RackAnswer} → o.answer ≡ Refused refusal → a ≡ refused_as refusal
+pub refused_kept : (n : ℕ) (refusal : Refusal) (o : Outcome) {l : List ℕ} {a : RackAnswer} → o.answer ≡ Err refusal → a ≡ refused_as refusal
     → ◌≡◌ {A = StateOutcome} (record { answer = a; state = l }) (kept_in n l o)
 unfolding kept_in answered_as list_after
 refused_kept n refusal o e f = rw (e, f)
 
-pub bytes_reported : {file before after : List ℕ} {count : ℕ} {r : Reporting} → r ≡ Bytes count
+pub bytes_reported : {file before after : List ℕ} {count : ℕ} {r : Result ℕ Refusal} → r ≡ Ok count
     → FileReported file before (record { answer = r; out = after }) → PlanReported file before (record { number = 0; value = count }) after
 unfolding reported_as
 bytes_reported {r = r} e f = record { reporting = r; answered = rw e; reported = f }
 
-pub refusal_reported : {file before after : List ℕ} {refusal : Refusal} {r : Reporting} {a : RackAnswer} → r ≡ reporting.Refused refusal
+pub refusal_reported : {file before after : List ℕ} {refusal : Refusal} {r : Result ℕ Refusal} {a : RackAnswer} → r ≡ Err refusal
     → a ≡ refused_as refusal → FileReported file before (record { answer = r; out = after }) → PlanReported file before a after
 unfolding reported_as
 refusal_reported {r = r} e g f = record { reporting = r; answered = rw (e, g); reported = f }
+
+-- A report is answered as any call is.
+pub reported_answered : {file before after : List ℕ} {r : Result ℕ Refusal} {a : RackAnswer} → a ≡ answered_as r
+    → FileReported file before (record { answer = r; out = after }) → PlanReported file before a after
+unfolding answered_as reported_as
+reported_answered {file} {before} {after} {r} {a} e f = record { reporting = r; answered = e ∙ same r; reported = f }
+  where
+    same : (r : Result ℕ Refusal) → answered_as r ≡ reported_as r
+    same (Ok count) = refl
+    same (Err refusal) = refl

@@ -1,26 +1,19 @@
 -- The whole outcome of each call of the rack's host: the answer and every list as it then is (docs/LAYOUTS.md).
-use Rattle.std.specs.Prelude.{ℕ, Bool, cond, ◌&&◌, ◌≡◌, List, [], ltb, eqb, length, replicate}
+use Rattle.std.specs.Prelude.{ℕ, Bool, cond, ◌&&◌, ◌≡◌, List, [], ltb, eqb, length, replicate, Err, Ok, Result}
 use Rattle.table.specs.Table.{Table, rows, is_plan}
 use Rattle.table.specs.Refusals.{number_of, place_of}
 use Rattle.table.specs.declared.refusal.Refusal.{Refusal}
 use Rattle.table.specs.declared.refusal.Refusal.TheVariants.{NotAPlan, StateDoesNotFit, TooShort}
-use Rattle.planfile.specs.declared.read.Reading.{Reading}
-use Rattle.planfile.specs.declared.read.Reading.TheVariants.{Read}
-use Rattle.planfile.specs.declared.read.Reading.TheVariants as reading
+use Rattle.planfile.specs.declared.read.Counts.{Counts}
 use Rattle.planfile.specs.Reading.{Lists, read}
 use Rattle.planfile.specs.Answered as planfile
-use Rattle.report.specs.declared.Reporting.{Reporting}
-use Rattle.report.specs.declared.Reporting.TheVariants.{Bytes}
-use Rattle.report.specs.declared.Reporting.TheVariants as reporting
 use Rattle.report.specs.Reporting.{FileReported}
-use Rattle.guards.specs.declared.state.Answer.{Answer}
-use Rattle.guards.specs.declared.state.Answer.TheVariants.{Taken, Refused}
-use Rattle.guards.specs.declared.state.Outcome.{Outcome}
+use Rattle.guards.specs.Outcome.{Outcome}
 use Rattle.guards.specs.declared.state.State.{State}
 use Rattle.guards.specs.Calls.{fresh_start, arrive, tick, TickOutcome}
 use Rattle.rack.specs.declared.answer.RackAnswer.{RackAnswer}
-use Rattle.rack.specs.declared.calls.Call.{Call}
-use Rattle.rack.specs.declared.calls.Call.TheVariants.{Fresh, Arrive, Tick}
+use Rattle.rack.specs.declared.call.Call.{Call}
+use Rattle.rack.specs.declared.call.Call.TheVariants.{Fresh, Arrive, Tick}
 use Rattle.rack.specs.Layouts.{table_bytes, state_bytes, table_in, with_table, rows_in, state_in, with_state}
 
 -- A refusal as the host sees it: its number, and its place.
@@ -28,9 +21,9 @@ unfoldable pub refused_as : Refusal → RackAnswer
 refused_as refusal = record { number = number_of refusal; value = place_of refusal }
 
 -- An answer as the host sees it: number 0 and the value, or the refusal.
-unfoldable pub answered_as : Answer → RackAnswer
-answered_as (Taken value) = record { number = 0; value = value }
-answered_as (Refused refusal) = refused_as refusal
+unfoldable pub answered_as : Result ℕ Refusal → RackAnswer
+answered_as (Ok value) = record { number = 0; value = value }
+answered_as (Err refusal) = refused_as refusal
 
 -- A call's answer and the state list as it then is.
 pub record StateOutcome : Type 0 where
@@ -38,9 +31,9 @@ pub record StateOutcome : Type 0 where
   pub state : List ℕ
 
 -- A call that was taken writes its state into the list, one that was refused leaves it.
-unfoldable pub list_after : Answer → List ℕ → List ℕ → List ℕ
-list_after (Taken value) written before = written
-list_after (Refused refusal) written before = before
+unfoldable pub list_after : Result ℕ Refusal → List ℕ → List ℕ → List ℕ
+list_after (Ok value) written before = written
+list_after (Err refusal) written before = before
 
 -- The outcome of a call on the state that the list holds for a plan of n rows.
 unfoldable pub kept_in : ℕ → List ℕ → Outcome → StateOutcome
@@ -104,12 +97,12 @@ pub record TableOutcome : Type 0 where
   pub table : List ℕ
 
 -- A file that was read stands in the list as its table, and the answer is the number of its rows; a refusal leaves the list.
-unfoldable pub table_from : Reading → Lists → List ℕ → TableOutcome
-table_from (Read counts) lists list = record {
+unfoldable pub table_from : Result Counts Refusal → Lists → List ℕ → TableOutcome
+table_from (Ok counts) lists list = record {
   answer = record { number = 0; value = rows (planfile.table_in counts lists) };
   table = with_table (planfile.table_in counts lists) list;
 }
-table_from (reading.Refused refusal) lists list = record { answer = refused_as refusal; table = list }
+table_from (Err refusal) lists list = record { answer = refused_as refusal; table = list }
 
 -- Lists of zeros with room for 32 tasks and 128 rows.
 abbrev pub room_for : Lists
@@ -129,12 +122,12 @@ rack_table file list =
     (table_from (read file room_for).answer (read file room_for).lists list)
 
 -- An answer of reporting as the host sees it: number 0 and the report's bytes, or the refusal.
-unfoldable pub reported_as : Reporting → RackAnswer
-reported_as (Bytes count) = record { number = 0; value = count }
-reported_as (reporting.Refused refusal) = refused_as refusal
+unfoldable pub reported_as : Result ℕ Refusal → RackAnswer
+reported_as (Ok count) = record { number = 0; value = count }
+reported_as (Err refusal) = refused_as refusal
 
 -- A plan file's report into an output: the whole outcome of reporting the file, with its answer as the host sees it.
 pub record PlanReported (file before : List ℕ) (answer : RackAnswer) (after : List ℕ) : Type 0 where
-  pub reporting : Reporting
+  pub reporting : Result ℕ Refusal
   pub answered : answer ≡ reported_as reporting
   pub reported : FileReported file before (record { answer = reporting; out = after })

@@ -1,5 +1,5 @@
 -- A file read into a table list.
-use Rattle.std.specs.Prelude.{ℕ, min, ◌≤◌, ◌<◌, ◌≡◌, List, length}
+use Rattle.std.specs.Prelude.{ℕ, min, ◌≤◌, ◌<◌, ◌≡◌, List, length, Err, Ok}
 use Rattle.std.proofs.Common.{le-ltb, lt-ltb, sym, ◌∙◌, ap, subst, arith}
 use Rattle.facts.specs.Sums.{sum}
 use Rattle.words.specs.Words.{with_word, with_field}
@@ -8,7 +8,6 @@ use Rattle.table.specs.TableLaws.{Checked, checked}
 use Rattle.table.specs.declared.refusal.Refusal.{Refusal}
 use Rattle.table.specs.declared.refusal.Refusal.TheVariants.{TooShort}
 use Rattle.planfile.specs.declared.read.Counts.{Counts}
-use Rattle.planfile.specs.declared.read.Reading.TheVariants.{Read, Refused}
 use Rattle.planfile.specs.Reading.{Lists, ReadOutcome, read}
 use Rattle.planfile.specs.Writing.{WriteOutcome}
 use Rattle.planfile.specs.Answered.{table_in}
@@ -19,9 +18,9 @@ use Rattle.rack.specs.RackCalls.{TableOutcome, table_from, room_for, rack_table,
 
 -- The table that a reading leaves is a plan.
 pub read_plan :
-    (file : List ℕ) (l : Lists) (c : Counts) (o : ReadOutcome) → o ≡ read file l → o.answer ≡ Read c → Checked (table_in c o.lists)
+    (file : List ℕ) (l : Lists) (c : Counts) (o : ReadOutcome) → o ≡ read file l → o.answer ≡ Ok c → Checked (table_in c o.lists)
 read_plan file l c o e f =
-    let answer : (read file l).answer ≡ Read c = sym (ap (λ (x : ReadOutcome). x.answer) e) ∙ f in
+    let answer : (read file l).answer ≡ Ok c = sym (ap (λ (x : ReadOutcome). x.answer) e) ∙ f in
     let lists : (read file l).lists ≡ o.lists = sym (ap (λ (x : ReadOutcome). x.lists) e) in
     subst (λ (x : Lists). Checked (table_in c x)) lists
     (checked _
@@ -64,12 +63,12 @@ module _ (file list : List ℕ) (h : table_bytes ≤ length list) (o : ReadOutco
   unfolding rack_table
   rack_table_when_long = rw (le-ltb (length list) table_bytes h, e)
 
-  pub read_kept : (c : Counts) {a : RackAnswer} {written : List ℕ} → o.answer ≡ Read c → TablePut (table_in c o.lists) list a written
+  pub read_kept : (c : Counts) {a : RackAnswer} {written : List ℕ} → o.answer ≡ Ok c → TablePut (table_in c o.lists) list a written
       → ◌≡◌ {A = TableOutcome} (record { answer = a; table = written }) (rack_table file list)
   unfolding table_from
   read_kept c f p = rw (rack_table_when_long, f, p.answered, p.list)
 
-  pub refusal_kept : (r : Refusal) {a : RackAnswer} → o.answer ≡ Refused r → a ≡ refused_as r
+  pub refusal_kept : (r : Refusal) {a : RackAnswer} → o.answer ≡ Err r → a ≡ refused_as r
       → ◌≡◌ {A = TableOutcome} (record { answer = a; table = list }) (rack_table file list)
   unfolding table_from
   refusal_kept r f g = rw (rack_table_when_long, f, g)

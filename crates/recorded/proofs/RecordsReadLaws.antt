@@ -1,11 +1,8 @@
 -- Laws of reading into lists of records: its parts together, and that a refusal leaves the lists.
-use Rattle.std.specs.Prelude.{ℕ, min, ◌≡◌, List, length}
+use Rattle.std.specs.Prelude.{ℕ, min, ◌≡◌, List, length, Err}
 use Rattle.std.proofs.Common.{arith}
 use Rattle.facts.specs.Filled.{tab}
 use Rattle.table.specs.declared.refusal.Refusal.{Refusal}
-use Rattle.planfile.specs.declared.read.Reading.{Reading}
-use Rattle.planfile.specs.declared.read.Reading.TheVariants.{Refused}
-use Rattle.columns.specs.declared.columns.Columns.{Columns}
 use Rattle.columns.specs.declared.columns.Chain.{Chain}
 use Rattle.columns.specs.declared.columns.Row.{Row}
 use Rattle.records.specs.Records.{laid_chains, laid_rows}
@@ -24,15 +21,15 @@ fit_laid s chains rows f =
     rw (a, b)
 
 pub read_made :
-    (file : List ℕ) (chains : List Chain) (rows : List Row) {s : Sheet} {c : Columns} {n k : ℕ} {answer : Reading} {zs : List Chain} {ys : List Row}
-    → s ≡ sheet_of file (length chains) (length rows) → c ≡ s.columns → n ≡ s.chains → zs ≡ laid_chains c n chains → k ≡ s.rows → ys ≡ laid_rows c k rows → answer ≡ s.answer
-    → ◌≡◌ {A = RecordsOutcome} (record { answer = answer; chains = zs; rows = ys }) (records_read file chains rows)
+    (file : List ℕ) (chains : List Chain) (rows : List Row) {s : Sheet} {zs : List Chain} {ys : List Row}
+    → s ≡ sheet_of file (length chains) (length rows) → zs ≡ laid_chains s.columns s.chains chains → ys ≡ laid_rows s.columns s.rows rows
+    → ◌≡◌ {A = RecordsOutcome} (record { answer = s.answer; chains = zs; rows = ys }) (records_read file chains rows)
 unfolding records_read
-read_made file chains rows e c n zs k ys answer = rw (answer, ys, zs, k, n, c, e) (fit_laid _ chains rows (sheet_fits file (length chains) (length rows)))
+read_made file chains rows e zs ys = rw (ys, zs, e) (fit_laid _ chains rows (sheet_fits file (length chains) (length rows)))
 
 -- A refusal leaves the lists as they were.
 pub refusal_leaves :
-    (file : List ℕ) (chains : List Chain) (rows : List Row) (r : Refusal) → (records_read file chains rows).answer ≡ Refused r
-    → records_read file chains rows ≡ record { answer = Refused r; chains = chains; rows = rows }
+    (file : List ℕ) (chains : List Chain) (rows : List Row) (r : Refusal) → (records_read file chains rows).answer ≡ Err r
+    → records_read file chains rows ≡ record { answer = Err r; chains = chains; rows = rows }
 unfolding records_read laid_over tab
 refusal_leaves file chains rows r e = rw (refused_lays_none file (length chains) (length rows) r e)

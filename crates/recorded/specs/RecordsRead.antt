@@ -1,7 +1,8 @@
 -- Reading a plan file into lists of records (document 01, "The plan on paper": rows are held as records, one for each step).
-use Rattle.std.specs.Prelude.{ℕ, List, length}
+use Rattle.std.specs.Prelude.{ℕ, List, length, Result}
+use Rattle.table.specs.declared.refusal.Refusal.{Refusal}
+use Rattle.planfile.specs.declared.read.Counts.{Counts}
 use Rattle.facts.specs.Filled.{filled}
-use Rattle.planfile.specs.declared.read.Reading.{Reading}
 use Rattle.columns.specs.declared.columns.Chain.{Chain}
 use Rattle.columns.specs.declared.columns.Row.{Row}
 use Rattle.columns.specs.Columns.{chain_of, row_of}
@@ -10,7 +11,7 @@ use Rattle.sheets.specs.Sheet.{sheet_of}
 
 -- The answer of reading and the two lists of records as they then are.
 pub record RecordsOutcome : Type 0 where
-  pub answer : Reading
+  pub answer : Result Counts Refusal
   pub chains : List Chain
   pub rows : List Row
 

@@ -69,6 +69,10 @@ columns_of processors tasks chains rows = with_rows (with_chains (blank_of proce
 abbrev pub records_table : ℕ → ℕ → List Chain → List Row → Table
 records_table processors tasks chains rows = table_in (columns_of processors tasks chains rows)
 
+-- `records_table`, which no check opens unasked.
+unfoldable pub in_records : ℕ → ℕ → List Chain → List Row → Table
+in_records processors tasks chains rows = records_table processors tasks chains rows
+
 -- The list with the first records of tasks laid over its front, count of them or as many as it has places; the rest stays.
 abbrev pub laid_chains : Columns → ℕ → List Chain → List Chain
 laid_chains c count chains = filled (chain_of c) (min count (length chains)) chains

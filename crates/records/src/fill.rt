@@ -1,33 +1,46 @@
 // Records laid: lists of records from a table by value.
 
-ghost use Rattle.std.specs.Prelude.{◌≡◌};
-ghost use Rattle.records.specs.Records.{laid_chains, laid_rows};
+ghost use Rattle.std.specs.Prelude.{◌≡◌, ℕ, length, min};
+ghost use Rattle.facts.specs.Filled.{filled};
+ghost use Rattle.columns.specs.declared.columns.Columns.{Columns};
 
-use crate::counts::lesser;
-use columns::columns::{Chain, Columns, Row, chain_of, row_of};
+use columns::columns::{Chain, Columns, Row};
 
-// Lays the records of the first tasks into the list, this many at most; the rest of the list stays.
-pub fn lay_chains(chains: &mut [Chain], count: usize, columns: Columns)
-    ensures { chains.new ≡ laid_chains columns count chains.old }
-{
-    let most = lesser(count, chains.len());
-    let mut i: usize = 0;
-    while i < most {
-        let chain = chain_of(columns, i);
-        chains[i] = chain;
-        i += 1;
+// A record of a table by value.
+pub trait Record: Copy {
+    // The table's record of a place.
+    ghost of: { Columns → ℕ → Self };
+
+    fn of(columns: &Columns, place: usize) -> Self
+        ensures { result ≡ of columns.now place };
+}
+
+impl Record for Chain {
+    ghost use Rattle.columns.specs.Columns.{chain_of};
+
+    ghost of = { chain_of };
+
+    fn of(columns: &Columns, place: usize) -> Chain {
+        columns.chain_of(place)
     }
 }
 
-// Lays the records of the first rows into the list, this many at most; the rest of the list stays.
-pub fn lay_rows(rows: &mut [Row], count: usize, columns: Columns)
-    ensures { rows.new ≡ laid_rows columns count rows.old }
+impl Record for Row {
+    ghost use Rattle.columns.specs.Columns.{row_of};
+
+    ghost of = { row_of };
+
+    fn of(columns: &Columns, place: usize) -> Row {
+        columns.row_of(place)
+    }
+}
+
+// Lays the table's first records into the list, this many at most; the rest of the list stays.
+pub fn lay<R: Record>(list: &mut [R], count: usize, columns: &Columns)
+    ensures { list.new ≡ filled (R.of columns.now) (min count (length list.old)) list.old }
 {
-    let most = lesser(count, rows.len());
-    let mut i: usize = 0;
-    while i < most {
-        let row = row_of(columns, i);
-        rows[i] = row;
-        i += 1;
+    let most = count.min(list.len());
+    for i in 0..most {
+        list[i] = R::of(columns, i);
     }
 }

@@ -1,5 +1,5 @@
 -- What the bounds leave is what the report prints.
-use Rattle.std.specs.Prelude.{ℕ, ◌≤◌, ◌≡◌, refl, true, List, pos, length}
+use Rattle.std.specs.Prelude.{ℕ, ◌≤◌, ◌≡◌, refl, true, List, pos, length, Err, Ok, Result}
 use Rattle.std.proofs.Common.{◌∙◌, ap, arith}
 use borrow.Author.Tests.{le-leb}
 use Rattle.facts.specs.Filled.{filled}
@@ -10,8 +10,6 @@ use Rattle.table.specs.Table.{Table, rows, is_plan}
 use Rattle.table.specs.TableLaws.{checked, Long, long_true}
 use Rattle.table.specs.Plan.{plan_of, in_force}
 use Rattle.table.specs.PlanLaws.{right_of}
-use Rattle.bounds.specs.declared.Bounded.{Bounded}
-use Rattle.bounds.specs.declared.Bounded.TheVariants.{Verdict, Refused}
 use Rattle.bounds.specs.Bounds.{chain_bound, slack_of, Lists, needed, filled_in, Given, Refusing, Bounding, no_plan, too_short, no_busy_length}
 use Rattle.report.specs.LoadLaws.{load_is}
 use Rattle.report.specs.Listed.{Listing, listing, listed, Filled}
@@ -120,17 +118,17 @@ module _ (T : Table) {n : ℕ} {periods : List ℕ} (seen : Viewed T n periods) 
       })
 
 -- What a call of the bounds left, on a plan and in lists with room for any.
-module _ (T : Table) {n : ℕ} {periods : List ℕ} (seen : Viewed T n periods) (before after : Lists) (room : Roomy before) {b : Bounded} (left : Bounding T before after b) where
-  giving : {answer : ℕ} → b ≡ Verdict answer → Given T before after answer
+module _ (T : Table) {n : ℕ} {periods : List ℕ} (seen : Viewed T n periods) (before after : Lists) (room : Roomy before) {b : Result ℕ Refusal} (left : Bounding T before after b) where
+  giving : {answer : ℕ} → b ≡ Ok answer → Given T before after answer
   giving e = (rw e at left).2
 
-  refusing : {r : Refusal} → b ≡ Refused r → Refusing T before r
+  refusing : {r : Refusal} → b ≡ Err r → Refusing T before r
   refusing e = (rw e at left).0
 
-  pub bound_refuses : {r : Refusal} (out : List ℕ) → b ≡ Refused r → Reported T out (refused r out)
+  pub bound_refuses : {r : Refusal} (out : List ℕ) → b ≡ Err r → Reported T out (refused r out)
   bound_refuses out e = refusing_reported T seen.plan room (refusing e)
 
-  module _ {answer : ℕ} (e : b ≡ Verdict answer) where
+  module _ {answer : ℕ} (e : b ≡ Ok answer) where
     pub bound_filled : Filled (bounded T n periods after answer)
     bound_filled = bounded_filled T seen room (giving e)
 

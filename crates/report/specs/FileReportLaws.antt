@@ -1,6 +1,6 @@
 -- Reporting a file: the outcome is determined by the file and the output, and what the reader leaves is reported as the
 -- table that the file holds.
-use Rattle.std.specs.Prelude.{ℕ, ◌≤◌, ◌<◌, ◌≡◌, refl, List, length, drop}
+use Rattle.std.specs.Prelude.{ℕ, ◌≤◌, ◌<◌, ◌≡◌, refl, List, length, drop, Err, Ok}
 use Rattle.std.proofs.Common.{sym, ◌∙◌, ap, subst, arith, lt-ltb, le-ltb}
 use Rattle.std.proofs.Math.Decide.{dec_lt}
 use Rattle.std.proofs.Math.ListN.{get_or-append}
@@ -9,8 +9,6 @@ use Rattle.table.specs.declared.refusal.Refusal.{Refusal}
 use Rattle.table.specs.Table.{Table, at}
 use Rattle.table.specs.TableLaws.{long_true}
 use Rattle.planfile.specs.declared.read.Counts.{Counts}
-use Rattle.planfile.specs.declared.read.Reading.{Reading}
-use Rattle.planfile.specs.declared.read.Reading.TheVariants.{Read, Refused}
 use Rattle.planfile.specs.Reading as reader
 use Rattle.planfile.specs.Reading.{Held, table, refusal, held, most_bytes, Lists, ReadOutcome, laid_over, read_of}
 use Rattle.planfile.specs.Answered.{table_in}
@@ -19,6 +17,7 @@ use Rattle.planfile.specs.TrimmedLaws.{Full, full_of}
 use Rattle.planfile.specs.LongerLaws.{longer_plan, laid_part}
 use Rattle.planfile.specs.RoundTrip.{held_shape, read_is}
 use Rattle.report.specs.Reporting.{ReportOutcome, refused, Reported, FileReported, too_long, unread, read}
+use Rattle.report.specs.AnswersLaws.{value_same, refusal_same, differ}
 use Rattle.report.specs.ReportingLaws.{reporting_one}
 use Rattle.report.specs.AgreeLaws.{Agree, reported_agree}
 
@@ -80,9 +79,9 @@ held_reported file T l e a =
 -- The reader answers a table, whose report is the file's, or refuses the file as the report does.
 data Answers (file out : List ℕ) (o : ReadOutcome) : Type 0 where
   reads :
-      {c : Counts} → o.answer ≡ Read c
+      {c : Counts} → o.answer ≡ Ok c
       → ((w : ReportOutcome) → Reported (table_in c o.lists) out w → FileReported file out w) → Answers file out o
-  refuses : {r : Refusal} → o.answer ≡ Refused r → FileReported file out (refused r out) → Answers file out o
+  refuses : {r : Refusal} → o.answer ≡ Err r → FileReported file out (refused r out) → Answers file out o
 
 answers : (file out : List ℕ) (l : Lists) → Roomy l → Answers file out (reader.read file l)
 unfolding reader.read read_of
@@ -102,26 +101,17 @@ answers file out l room = go (dec_lt most_bytes (length file))
         holds (table T) e = reads refl (λ w a. read short e (held_reported file T l e a))
         holds (refusal r) e = refuses refl (unread short e refl)
 
-counts_same : {a : Reading} {c d : Counts} → a ≡ Read c → a ≡ Read d → c ≡ d
-counts_same d e = cc
-
-refusal_same : {a : Reading} {r s : Refusal} → a ≡ Refused r → a ≡ Refused s → r ≡ s
-refusal_same d e = cc
-
-differ : {a : Reading} {c : Counts} {r : Refusal} → a ≡ Read c → a ≡ Refused r → ⊥
-differ d e = let z : ◌≡◌ {A = ℕ} 0 1 = cc in omega arith
-
 -- What a call of the reader answered, in lists with room for any table.
 module _ (file out : List ℕ) (l : Lists) {o : ReadOutcome} (e : o ≡ reader.read file l) (room : Roomy l) where
   pub read_gives :
-      {c : Counts} {w : ReportOutcome} → o.answer ≡ Read c → Reported (table_in c o.lists) out w → FileReported file out w
+      {c : Counts} {w : ReportOutcome} → o.answer ≡ Ok c → Reported (table_in c o.lists) out w → FileReported file out w
   read_gives {c} {w} s a = go (rw e (answers file out l room))
     where
       go : Answers file out o → FileReported file out w
-      go (reads d x) = x w (subst (λ (k : Counts). Reported (table_in k o.lists) out w) (counts_same s d) a)
+      go (reads d x) = x w (subst (λ (k : Counts). Reported (table_in k o.lists) out w) (value_same s d) a)
       go (refuses d x) = absurd (differ s d)
 
-  pub read_refuses : {r : Refusal} → o.answer ≡ Refused r → FileReported file out (refused r out)
+  pub read_refuses : {r : Refusal} → o.answer ≡ Err r → FileReported file out (refused r out)
   read_refuses {r} s = go (rw e (answers file out l room))
     where
       go : Answers file out o → FileReported file out (refused r out)

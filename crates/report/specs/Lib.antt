@@ -3,10 +3,13 @@ pub mod Report
 pub mod LoadLaws
 pub mod SignLaws
 pub mod Listed
+pub mod Findings
+pub mod Pages
 pub mod ReportLaws
 pub mod FiguresLaws
 pub mod Reporting
 pub mod ReportingLaws
+pub mod AnswersLaws
 pub mod ViewedLaws
 pub mod BoundedLaws
 pub mod AgreeLaws

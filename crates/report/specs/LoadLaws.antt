@@ -27,7 +27,7 @@ module _ (on cost period : ℕ → ℕ) (processor : ℕ) where
   unfolding load_of
   load_none = sum_if_none (λ r. eqb (on r) processor) (λ r. row_load (cost r) (period r))
 
-  load_more :
+  pub load_more :
       (n : ℕ) → load_of (n + 1) on cost period processor
       ≡ load_of n on cost period processor + cond (eqb (on n) processor) (row_load (cost n) (period n)) 0
   unfolding load_of

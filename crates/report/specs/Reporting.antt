@@ -1,30 +1,28 @@
 -- Reporting a table or a file (document 01, "Numbers that say no": report 5, 6, 7).
-use Rattle.std.specs.Prelude.{ℕ, suc, ◌≤◌, ◌<◌, ◌≡◌, true, false, cond, List, ltb, length}
+use Rattle.std.specs.Prelude.{ℕ, suc, ◌≤◌, ◌<◌, ◌≡◌, true, false, cond, List, ltb, length, Err, Ok, Result}
 use Rattle.facts.specs.Filled.{laid}
 use Rattle.table.specs.declared.refusal.Refusal.{Refusal}
 use Rattle.table.specs.declared.refusal.Refusal.TheVariants.{FileTooLong, NotAPlan, NoBusyLength, TooShort}
 use Rattle.table.specs.Table.{Table, is_plan}
 use Rattle.planfile.specs.Reading.{table, refusal, held, most_bytes}
 use Rattle.bounds.specs.Bounds.{Numbers, Analysis, Stuck}
-use Rattle.report.specs.declared.Reporting.{Reporting}
-use Rattle.report.specs.declared.Reporting.TheVariants.{Bytes, Refused}
 use Rattle.report.specs.Report.{report_text}
 
 -- The answer of reporting and the output as it then is.
 pub record ReportOutcome : Type 0 where
-  pub answer : Reporting
+  pub answer : Result ℕ Refusal
   pub out : List ℕ
 
 -- A refusal leaves the output.
 abbrev pub refused : Refusal → List ℕ → ReportOutcome
-refused r out = record { answer = Refused r; out = out }
+refused r out = record { answer = Err r; out = out }
 
 -- A text for an output: too short an output gives 7 with the bytes needed, and else the text stands at its front, and the
 -- answer is the number of bytes.
 unfoldable pub delivered : List ℕ → List ℕ → ReportOutcome
 delivered text out =
     cond (ltb (length out) (length text)) (refused (TooShort (length text)) out)
-    (record { answer = Bytes (length text); out = laid text out })
+    (record { answer = Ok (length text); out = laid text out })
 
 -- The whole outcome w of reporting table T to the output: 5 where it is no plan, 6 with the lowest row that has no busy
 -- length, else 7 or the report of its bounds.

@@ -1,5 +1,5 @@
 -- What the view of a table's rows leaves to the report.
-use Rattle.std.specs.Prelude.{ℕ, ◌≤◌, ◌<◌, ◌≡◌, refl, Bool, true, false, List, [], length}
+use Rattle.std.specs.Prelude.{ℕ, ◌≤◌, ◌<◌, ◌≡◌, refl, Bool, true, false, List, [], length, Err, Ok}
 use Rattle.std.proofs.Common.{subst, arith, le-leb}
 use Rattle.facts.specs.FilledLaws.{get_d_filled, length_filled}
 use Rattle.table.specs.declared.refusal.Refusal.{Refusal}
@@ -7,8 +7,7 @@ use Rattle.table.specs.Table.{Table, at, rows, is_plan}
 use Rattle.table.specs.TableLaws.{checked}
 use Rattle.table.specs.Plan.{plan_of}
 use Rattle.planned.specs.View as view
-use Rattle.planned.specs.declared.plan.View.{View}
-use Rattle.planned.specs.declared.plan.View.TheVariants.{Rows, Refused}
+use Rattle.report.specs.AnswersLaws.{value_same, refusal_same, differ}
 use Rattle.report.specs.Reporting as reporting
 use Rattle.report.specs.Reporting.{refused, Reported}
 
@@ -21,8 +20,8 @@ pub record Viewed (T : Table) (n : ℕ) (periods : List ℕ) : Type 0 where
 
 -- The view shows the rows of a plan, or refuses a table that is none as the report does.
 data Views (T : Table) (out : List ℕ) (v : view.Viewed) : Type 0 where
-  shows : {n : ℕ} → v.answer ≡ Rows n → Viewed T n v.period → Views T out v
-  refuses : {r : Refusal} → v.answer ≡ Refused r → Reported T out (refused r out) → Views T out v
+  shows : {n : ℕ} → v.answer ≡ Ok n → Viewed T n v.period → Views T out v
+  refuses : {r : Refusal} → v.answer ≡ Err r → Reported T out (refused r out) → Views T out v
 
 views :
     (T : Table) (out periods : List ℕ) (firsts : List Bool) → 128 ≤ length periods → 128 ≤ length firsts
@@ -42,25 +41,16 @@ views T out periods firsts a b = go (is_plan T) refl
           each = λ r l. get_d_filled (plan_of T).period (rows T) r 0 periods l;
         }))
 
-rows_same : {a : View} {m n : ℕ} → a ≡ Rows m → a ≡ Rows n → m ≡ n
-rows_same d e = cc
-
-refusal_same : {a : View} {r s : Refusal} → a ≡ Refused r → a ≡ Refused s → r ≡ s
-refusal_same d e = cc
-
-differ : {a : View} {n : ℕ} {r : Refusal} → a ≡ Rows n → a ≡ Refused r → ⊥
-differ d e = let z : ◌≡◌ {A = ℕ} 0 1 = cc in omega arith
-
 -- What a call answered, in lists with room for any plan.
 module _ (T : Table) (periods : List ℕ) (firsts : List Bool) {v : view.Viewed} (e : v ≡ view.viewed T periods firsts) (long : 128 ≤ length periods) (wide : 128 ≤ length firsts) where
-  pub view_shows : {n : ℕ} → v.answer ≡ Rows n → Viewed T n v.period
+  pub view_shows : {n : ℕ} → v.answer ≡ Ok n → Viewed T n v.period
   view_shows {n} s = go (rw e (views T [] periods firsts long wide))
     where
       go : Views T [] v → Viewed T n v.period
-      go (shows d x) = subst (λ (k : ℕ). Viewed T k v.period) (rows_same d s) x
+      go (shows d x) = subst (λ (k : ℕ). Viewed T k v.period) (value_same d s) x
       go (refuses d x) = absurd (differ s d)
 
-  pub view_refuses : {r : Refusal} (out : List ℕ) → v.answer ≡ Refused r → Reported T out (refused r out)
+  pub view_refuses : {r : Refusal} (out : List ℕ) → v.answer ≡ Err r → Reported T out (refused r out)
   view_refuses {r} out s = go (rw e (views T out periods firsts long wide))
     where
       go : Views T out v → Reported T out (refused r out)

@@ -1,53 +1,43 @@
 // The report's bytes in the lent output, if that has room for all of them.
 
 ghost use Rattle.std.specs.Prelude.{◌≡◌, ◌≤◌, length};
-ghost use Rattle.report.specs.Listed.{Filled, listed, listing};
+ghost use Rattle.report.specs.Findings.{listing_of};
+ghost use Rattle.report.specs.Listed.{Filled, listed};
 ghost use Rattle.report.specs.Report.{report_of};
 ghost use Rattle.report.specs.Reporting.{ReportOutcome, delivered};
 
-use crate::Reporting;
+use crate::findings::Findings;
+use crate::page::Page;
 use crate::sections::append_report;
 use table::refusal::Refusal;
-use text::append;
+use table::view::TableView;
 
 // Lays the text over the front of the output.
-fn deliver(out: &mut [u8], text: &[u8]) -> Reporting
+#[tactic(auto, unfolding(crate::specs::Reporting::delivered))]
+fn deliver(text: &[u8], out: &mut [u8]) -> Result<u64, Refusal>
     ensures { ◌≡◌ {A = ReportOutcome} (record { answer = result; out = out.new }) (delivered text.now out.old) }
 {
     if out.len() < text.len() {
-        return Reporting::Refused(Refusal::TooShort(text.len() as u64));
+        return Err(Refusal::TooShort(text.len() as u64));
     }
-    let end = append(out, 0, text);
-    Reporting::Bytes(end as u64)
+    out[..text.len()].copy_from_slice(text);
+    Ok(text.len() as u64)
 }
 
 // Writes the report apart first, so that an output with too little room stays as it is.
-pub(crate) fn deliver_report(
+pub(crate) fn deliver_report<T: TableView>(
+    table: &T,
+    found: &Findings<'_>,
     out: &mut [u8],
-    rows: usize,
-    tasks: usize,
-    processors: u64,
-    busy: &[u64],
-    instances: &[u64],
-    bound: &[u64],
-    chains: &[u64],
-    slack: &[i64],
-    period: &[u64],
-    deadline: &[u64],
-    processor: &[u64],
-    cost: &[u64],
-    periods: &[u64],
-    accepted: u64,
-) -> Reporting
-    requires filled { Filled (listing rows tasks processors busy.now instances.now bound.now chains.now slack.now period.now deadline.now processor.now cost.now periods.now accepted) }
-    requires accepted_len_bound { length (report_of (listed (listing rows tasks processors busy.now instances.now bound.now chains.now slack.now period.now deadline.now processor.now cost.now periods.now accepted))) ≤ 10240 }
-    ensures { ◌≡◌ {A = ReportOutcome} (record { answer = result; out = out.new })
-        (delivered (report_of (listed (listing rows tasks processors busy.now instances.now bound.now chains.now slack.now period.now deadline.now processor.now cost.now periods.now accepted))) out.old) }
+) -> Result<u64, Refusal>
+    requires filled { Filled (listing_of (T.table table.now) found.now) }
+    requires few { length (report_of (listed (listing_of (T.table table.now) found.now))) ≤ 10240 }
+    ensures { ◌≡◌ {A = ReportOutcome} (record { answer = result; out = out.new }) (delivered (report_of (listed (listing_of (T.table table.now) found.now))) out.old) }
 {
-    let mut text = [0u8; 10240];
-    let end = append_report(
-        &mut text, rows, tasks, processors, busy, instances, bound, chains, slack, period,
-        deadline, processor, cost, periods, accepted,
-    );
-    deliver(out, &text[..end])
+    let mut page = Page {
+        bytes: [0u8; 10240],
+        end: 0,
+    };
+    append_report(&mut page, table, found);
+    deliver(&page.bytes[..page.end], out)
 }

@@ -1,11 +1,9 @@
 -- Reading a plan file for lists of records (document 01, "The plan on paper" and "Numbers that say no").
-use Rattle.std.specs.Prelude.{ℕ, cond, List, ltb}
+use Rattle.std.specs.Prelude.{ℕ, cond, List, ltb, Err, Ok, Result}
 use Rattle.table.specs.Table.{rows}
 use Rattle.table.specs.declared.refusal.Refusal.{Refusal}
 use Rattle.table.specs.declared.refusal.Refusal.TheVariants.{TooShort}
 use Rattle.planfile.specs.declared.read.Counts.{Counts}
-use Rattle.planfile.specs.declared.read.Reading.{Reading}
-use Rattle.planfile.specs.declared.read.Reading.TheVariants.{Read, Refused}
 use Rattle.planfile.specs.Reading.{Lists, lists_of, ReadOutcome, read}
 use Rattle.planfile.specs.Answered as planfile
 use Rattle.columns.specs.declared.columns.Columns.{Columns}
@@ -31,17 +29,17 @@ columns_in counts l = record {
 
 -- A refusal lays no record.
 abbrev pub unread_sheet : Refusal → Sheet
-unread_sheet refusal = record { answer = Refused refusal; columns = blank_of 0 0; chains = 0; rows = 0 }
+unread_sheet refusal = record { answer = Err refusal; columns = blank_of 0 0; chains = 0; rows = 0 }
 
 -- A file that was read lays a record for each task and for each row of its table.
-unfoldable pub sheet_from : Reading → Lists → Sheet
-sheet_from (Read counts) l = record {
-  answer = Read counts;
+unfoldable pub sheet_from : Result Counts Refusal → Lists → Sheet
+sheet_from (Ok counts) l = record {
+  answer = Ok counts;
   columns = columns_in counts l;
   chains = counts.tasks;
   rows = rows (planfile.table_in counts l);
 }
-sheet_from (Refused refusal) l = unread_sheet refusal
+sheet_from (Err refusal) l = unread_sheet refusal
 
 -- Reading a file into blank lists, which have room for any table.
 abbrev pub read_blank : List ℕ → ReadOutcome

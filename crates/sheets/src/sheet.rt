@@ -5,16 +5,18 @@ ghost use Rattle.table.specs.Table.{is_plan, rows as rows_of};
 ghost use Rattle.columns.specs.Columns.{table_in};
 ghost use Rattle.sheets.specs.Sheet.{file_sheet, sheet_of, unread_sheet};
 
-use columns::columns::{Columns, blank};
+use columns::columns::Columns;
+use planfile::lists::TableListsMut;
 use planfile::read as reading;
-use planfile::read::Reading;
-use planned::plan::{View, view_rows};
+use planfile::read::Counts;
+use planned::rows::count_rows;
 use table::refusal::Refusal;
 
 // What reading gives: the answer, the table, and how many chain and row records are to be laid.
+// No Result of a Sheet: `sheet_of` says what is laid on a refusal too.
 #[derive(Clone, Copy)]
 pub struct Sheet {
-    pub answer: Reading,
+    pub answer: Result<Counts, Refusal>,
     pub columns: Columns,
     pub chains: usize,
     pub rows: usize,
@@ -24,41 +26,20 @@ pub struct Sheet {
 fn unread(refusal: Refusal) -> Sheet
     ensures { result ≡ unread_sheet refusal }
 {
-    let answer = Reading::Refused(refusal);
-    let columns = blank(0, 0);
     Sheet {
-        answer: answer,
-        columns: columns,
+        answer: Err(refusal),
+        columns: Columns::blank(0, 0),
         chains: 0,
         rows: 0,
     }
 }
 
 // How many rows a plan has.
-fn count_rows(columns: Columns) -> usize
-    ensures { is_plan (table_in columns) ≡ true → result ≡ rows_of (table_in columns) }
+// No Result: what was read is a plan, and an arm for a refusal that can't come is no plainer.
+fn rows_to_lay(columns: &Columns) -> usize
+    ensures { is_plan (table_in columns.now) ≡ true → result ≡ rows_of (table_in columns.now) }
 {
-    let period = columns.period;
-    let deadline = columns.deadline;
-    let steps = columns.steps;
-    let processor = columns.processor;
-    let priority = columns.priority;
-    let time = columns.time;
-    let mut periods = [0u64; 128];
-    let mut firsts = [false; 128];
-    let viewed = view_rows(
-        columns.processors,
-        columns.tasks,
-        &period,
-        &deadline,
-        &steps,
-        &processor,
-        &priority,
-        &time,
-        &mut periods,
-        &mut firsts,
-    );
-    let View::Rows(rows) = viewed else {
+    let Ok(rows) = count_rows(columns) else {
         return 0;
     };
     rows as usize
@@ -68,39 +49,25 @@ fn count_rows(columns: Columns) -> usize
 fn read_file(file: &[u8]) -> Sheet
     ensures { result ≡ file_sheet file.now }
 {
-    let mut period = [0u64; 32];
-    let mut deadline = [0u64; 32];
-    let mut steps = [0u64; 32];
-    let mut processor = [0u64; 128];
-    let mut priority = [0u64; 128];
-    let mut time = [0u64; 128];
-    let answer = reading::read(
-        file,
-        &mut period,
-        &mut deadline,
-        &mut steps,
-        &mut processor,
-        &mut priority,
-        &mut time,
-    );
-    match answer {
-        Reading::Refused(refusal) => unread(refusal),
-        Reading::Read(counts) => {
-            let columns = Columns {
-                processors: counts.processors,
-                tasks: counts.tasks,
-                period: period,
-                deadline: deadline,
-                steps: steps,
-                processor: processor,
-                priority: priority,
-                time: time,
-            };
+    let mut columns = Columns::blank(0, 0);
+    let mut lists = TableListsMut {
+        period: &mut columns.period,
+        deadline: &mut columns.deadline,
+        steps: &mut columns.steps,
+        processor: &mut columns.processor,
+        priority: &mut columns.priority,
+        time: &mut columns.time,
+    };
+    match reading::read(file, &mut lists) {
+        Err(refusal) => unread(refusal),
+        Ok(counts) => {
+            columns.processors = counts.processors;
+            columns.tasks = counts.tasks;
             Sheet {
-                answer: answer,
-                columns: columns,
+                answer: Ok(counts),
+                columns,
                 chains: counts.tasks as usize,
-                rows: count_rows(columns),
+                rows: rows_to_lay(&columns),
             }
         }
     }

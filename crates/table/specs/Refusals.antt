@@ -1,5 +1,6 @@
 -- Number and place of each refusal (document 01, "Numbers that say no").
-use Rattle.std.specs.Prelude.{ℕ}
+use Rattle.std.specs.Prelude.{ℕ, List, ◌++◌, codes}
+use Rattle.std.specs.Fmt.{decimal}
 use Rattle.table.specs.declared.refusal.Refusal.{Refusal}
 use Rattle.table.specs.declared.refusal.Refusal.TheVariants.{
   FileTooLong,
@@ -55,3 +56,7 @@ place_of (WrongDoneByte processor) = processor
 place_of (TimeUsedUp processor) = processor
 place_of ClockAtEnd = last_clock
 place_of StateDoesNotFit = 0
+
+-- Number and place as the line of a log, `refused=6 at=2`.
+abbrev pub refusal_line : Refusal → List ℕ
+refusal_line r = codes "refused=" ++ decimal (number_of r) ++ codes " at=" ++ decimal (place_of r)

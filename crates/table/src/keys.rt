@@ -1,4 +1,5 @@
 // The keys of a plan file by number, in the order in which a plan gives them.
+// Numbers, no enum: the number selects range test and next key (document 01's form); `in_range`, `line_at`, `append_word` answer for any.
 
 pub const PLAN: usize = 0;
 

@@ -12,7 +12,7 @@ pub struct Range {
 }
 
 // The one fixed table by key. `task` and `processor` take the plan's own and have their outermost limits here.
-const RANGES: [Range; 10] = [
+static RANGES: [Range; 10] = [
     Range { least: 1, most: 1 },
     Range { least: 1, most: 16 },
     Range { least: 1, most: 32 },

@@ -3,6 +3,8 @@
 ghost use Rattle.std.specs.Prelude.{◌≡◌};
 ghost use Rattle.table.specs.Refusals.{number_of, place_of};
 
+use std::fmt;
+
 #[derive(Clone, Copy)]
 pub enum Refusal {
     // 1: the file has more than 8,192 bytes.
@@ -35,46 +37,60 @@ pub enum Refusal {
     StateDoesNotFit,
 }
 
-// The refusal's number.
-pub fn number_of(refusal: Refusal) -> u64
-    ensures { result ≡ number_of refusal }
-{
-    match refusal {
-        Refusal::FileTooLong => 1,
-        Refusal::NotTheLineDue(_) => 2,
-        Refusal::OutOfRange(_) => 3,
-        Refusal::TooManyRows(_) => 4,
-        Refusal::NotAPlan => 5,
-        Refusal::NoBusyLength(_) => 6,
-        Refusal::TooShort(_) => 7,
-        Refusal::NoSuchTask(_) => 8,
-        Refusal::TooSoon(_) => 9,
-        Refusal::WrongDoneLength(_) => 10,
-        Refusal::WrongDoneByte(_) => 11,
-        Refusal::TimeUsedUp(_) => 12,
-        Refusal::ClockAtEnd => 13,
-        Refusal::StateDoesNotFit => 14,
+impl Refusal {
+    // The refusal's number.
+    // By hand: the numbers are document 01's, as `number_of` lists them, which no derive gives.
+    pub fn number(self) -> u64
+        ensures { result ≡ number_of self }
+    {
+        match self {
+            Refusal::FileTooLong => 1,
+            Refusal::NotTheLineDue(_) => 2,
+            Refusal::OutOfRange(_) => 3,
+            Refusal::TooManyRows(_) => 4,
+            Refusal::NotAPlan => 5,
+            Refusal::NoBusyLength(_) => 6,
+            Refusal::TooShort(_) => 7,
+            Refusal::NoSuchTask(_) => 8,
+            Refusal::TooSoon(_) => 9,
+            Refusal::WrongDoneLength(_) => 10,
+            Refusal::WrongDoneByte(_) => 11,
+            Refusal::TimeUsedUp(_) => 12,
+            Refusal::ClockAtEnd => 13,
+            Refusal::StateDoesNotFit => 14,
+        }
+    }
+
+    // The refusal's place.
+    // By hand: the places are document 01's, as `place_of` lists them, which no derive gives.
+    pub fn place(self) -> u64
+        ensures { result ≡ place_of self }
+    {
+        match self {
+            Refusal::FileTooLong | Refusal::NotAPlan | Refusal::StateDoesNotFit => 0,
+            Refusal::NotTheLineDue(line) | Refusal::OutOfRange(line) | Refusal::TooManyRows(line) =>
+                line,
+            Refusal::NoBusyLength(row) => row,
+            Refusal::TooShort(needed) => needed,
+            Refusal::NoSuchTask(given) => given,
+            Refusal::TooSoon(allowed) => allowed,
+            Refusal::WrongDoneLength(processors) => processors,
+            Refusal::WrongDoneByte(processor) | Refusal::TimeUsedUp(processor) => processor,
+            Refusal::ClockAtEnd => 1000000000000,
+        }
     }
 }
 
-// The refusal's place.
-pub fn place_of(refusal: Refusal) -> u64
-    ensures { result ≡ place_of refusal }
-{
-    match refusal {
-        Refusal::FileTooLong => 0,
-        Refusal::NotTheLineDue(line) => line,
-        Refusal::OutOfRange(line) => line,
-        Refusal::TooManyRows(line) => line,
-        Refusal::NotAPlan => 0,
-        Refusal::NoBusyLength(row) => row,
-        Refusal::TooShort(needed) => needed,
-        Refusal::NoSuchTask(given) => given,
-        Refusal::TooSoon(allowed) => allowed,
-        Refusal::WrongDoneLength(processors) => processors,
-        Refusal::WrongDoneByte(processor) => processor,
-        Refusal::TimeUsedUp(processor) => processor,
-        Refusal::ClockAtEnd => 1000000000000,
-        Refusal::StateDoesNotFit => 0,
+// As one line of a log: `refused=6 at=2`.
+impl fmt::Display for Refusal {
+    ghost use Rattle.std.specs.Prelude.{Some};
+    ghost use Rattle.table.specs.Refusals.{refusal_line};
+
+    ghost output = { λ r. Some (refusal_line r) };
+
+    fn fmt<W: fmt::Write>(&self, f: &mut fmt::Formatter<W>) -> fmt::Result {
+        let number = self.number();
+        let place = self.place();
+        write!(f, "refused={number} at={place}")
     }
 }

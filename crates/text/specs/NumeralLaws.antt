@@ -5,6 +5,8 @@ use Rattle.std.proofs.Math.Nat.{pow-le-pow_right}
 use Rattle.std.proofs.Math.Decide.{dec_lt}
 use Rattle.std.proofs.Math.ListN.{get_or-append}
 use Rattle.std.proofs.lemmas.List.{get_or_at}
+use Rattle.std.proofs.lemmas.Fmt.{decimal_from_appends, length-decimal-le}
+use Rattle.std.specs.Fmt as Std
 use Rattle.text.specs.Text.{digits, decimal}
 
 -- Below 10 there is one digit;
@@ -240,3 +242,10 @@ numeral_spelt (b ∷ bs) f = go (dec_lt 48 b) bs f
 pub numeral_value : (bs : List ℕ) → Numeral bs → decimal (value_of 0 bs) ≡ bs
 numeral_value bs f =
     decimal_digits (length bs) (value_of 0 bs) f.some f.most (numeral_less bs f) ∙ numeral_spelt bs f
+
+-- It is what std writes of a number of 64 bits.
+pub decimal_std : (n : ℕ) → n < 2 ^ 64 → decimal n ≡ Std.decimal n
+unfolding decimal
+decimal_std n h =
+    decimal_from_appends digits (record { one = digits_one; more = digits_more }) 20 n h
+    (length-decimal-le 20 n (omega arith) (omega arith) h)

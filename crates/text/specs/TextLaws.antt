@@ -1,6 +1,6 @@
 -- Laws of bytes appended, and how long a line is.
-use Rattle.std.specs.Prelude.{ℕ, suc, ◌+◌, ◌≤◌, ◌<◌, min, max, ◌≡◌, refl, List, [], ◌∷◌, ◌++◌, length, get_or, set, take, drop}
-use Rattle.std.proofs.Common.{sym, ◌∙◌, ap, append_assoc, add-zero, add-one, arith, lt-ltb, le-ltb, length-append, length-set, length-take-le, take_at, drop_at, drop-cons}
+use Rattle.std.specs.Prelude.{ℕ, suc, ◌+◌, ◌-◌, ◌≤◌, ◌<◌, min, max, ◌≡◌, refl, List, [], ◌∷◌, ◌++◌, length, get_or, set, take, drop}
+use Rattle.std.proofs.Common.{sym, ◌∙◌, ap, append_assoc, add-zero, add-one, arith, lt-ltb, le-ltb, length-append, length-set, length-take-le, take_at, drop_at, drop-cons, drop-drop, drop_of_length-le, take-append-drop, take_all}
 use Rattle.std.proofs.Math.Decide.{dec_lt}
 use Rattle.std.proofs.lemmas.List.Edits.{sets, sets-eq}
 use Rattle.std.proofs.Math.Seq.{length-sets}
@@ -83,6 +83,45 @@ appended_sets (b ∷ bs) l at h =
     appended_more b bs l at (omega arith) ∙ appended_sets bs (set l at b) (at + 1) (omega (arith, length-set l at b))
     ∙ rw (e, add-one at)
 
+-- As many bytes are stored as the list has room for, in one piece.
+pub appended_part :
+    (bs l : List ℕ) (at k : ℕ) → at ≤ length l → k ≡ min (length bs) (length l - at)
+    → appended bs l at ≡ record { list = take at l ++ (take k bs ++ drop (at + k) l); end = at + k }
+appended_part bs l at k h e =
+    split
+    ∙ ap (λ (w : Written). appended (drop k bs) w.list w.end) (appended_sets front l at (omega (arith, size)))
+    ∙ rw size (rest (dec_lt k (length bs)) ∙ rw (sets-eq front l at (omega (arith, size)), size, append_assoc (take at l) front (drop (at + k) l)) refl)
+  where
+    front : List ℕ
+    front = take k bs
+
+    size : length front ≡ k
+    size = length-take-le k bs (omega arith)
+
+    split : appended bs l at ≡ appended (drop k bs) (appended front l at).list (appended front l at).end
+    split = ap (λ (t : List ℕ). appended t l at) (sym (take-append-drop k bs)) ∙ appended_append front (drop k bs) l at
+
+    rest : Dec (k < length bs) → appended (drop k bs) (sets l at front) (at + k) ≡ record { list = sets l at front; end = at + k }
+    rest (yes g) = appended_full (drop k bs) (sets l at front) (at + k) (omega (arith, length-sets l at front))
+    rest (no g) = rw (drop_of_length-le bs {i = k} (omega arith)) (appended_none (sets l at front) (at + k))
+
+-- The same as a copy into a part of the list leaves it: of all the bytes, or of those that reach its end.
+pub appended_whole :
+    (bs l copy : List ℕ) (at : ℕ) → at + length bs ≤ length l → copy ≡ bs
+    → record { list = take at l ++ (copy ++ drop (at + length bs - at) (drop at l)); end = at + length bs } ≡ appended bs l at
+appended_whole bs l copy at h c =
+    let size : at + length bs - at ≡ length bs = omega arith in
+    rw (c, size, drop-drop (length bs) at l)
+    (sym (appended_part bs l at (length bs) (omega arith) (omega arith) ∙ rw (take_all (length bs) bs (omega arith)) refl))
+
+pub appended_rest :
+    (bs l copy : List ℕ) (at : ℕ) → at ≤ length l → length l - at ≤ length bs → copy ≡ take (length l - at) bs
+    → record { list = take at l ++ (copy ++ drop (length l - at) (drop at l)); end = length l } ≡ appended bs l at
+appended_rest bs l copy at h g c =
+    let end : at + (length l - at) ≡ length l = omega arith in
+    rw (c, drop-drop (length l - at) at l)
+    (sym (appended_part bs l at (length l - at) h (omega arith) ∙ rw end refl))
+
 -- All the bytes are there, behind what was before `at` and before what was behind them.
 pub record Placed (bs l : List ℕ) (at : ℕ) (w : Written) : Type 0 where
   pub end : w.end ≡ at + length bs
@@ -143,3 +182,12 @@ pub length_minus_line : (key : List ℕ) (v : ℕ) → length (minus_line key v)
 unfolding minus_line
 length_minus_line key v =
     omega (arith, length-append (key ++ (61 ∷ 45 ∷ decimal v)) (10 ∷ []), length-append key (61 ∷ 45 ∷ decimal v))
+
+-- A key, and a line of no key behind it, are the key's line.
+pub line_behind :
+    (key l : List ℕ) (at v : ℕ) {w x : Written} → w ≡ appended key l at → x ≡ appended (line [] v) w.list w.end
+    → x ≡ appended (line key v) l at
+unfolding line
+line_behind key l at v e g =
+    appended_then key (line [] v) l at e g
+    ∙ ap (λ (t : List ℕ). appended t l at) (sym (append_assoc key (61 ∷ decimal v) (10 ∷ [])))

@@ -1,5 +1,6 @@
 // Appending bytes, decimal numbers and `key=value` lines to a lent list of bytes. Each function writes from the place `at` on, as far as
 // the list has room, and answers the place behind the last byte that it wrote.
+// Output and place are no struct: `appended .. out.old at` in each contract takes both.
 #![tactic(auto)]
 
 mod decimal;
@@ -10,23 +11,25 @@ ghost use Rattle.text.specs.Text.{Written, appended, decimal, line, minus_line};
 use decimal::append_decimal;
 
 // Appends the bytes.
+#[tactic(auto, using(crate::specs::TextLaws::appended_full, crate::specs::TextLaws::appended_whole, crate::specs::TextLaws::appended_rest))]
 pub fn append(out: &mut [u8], at: usize, bytes: &[u8]) -> usize
     ensures { ◌≡◌ {A = Written} (record { list = out.new; end = result }) (appended bytes.now out.old at) }
 {
-    let mut end = at;
-    let mut i = 0;
-    while i < bytes.len() {
-        if out.len() <= end {
-            return end;
-        }
-        out[end] = bytes[i];
-        end += 1;
-        i += 1;
+    if out.len() <= at {
+        return at;
     }
-    end
+    let room = out.len() - at;
+    if bytes.len() <= room {
+        // Where the bytes are a literal, this copies so many bytes as the code says, with no call.
+        out[at..at + bytes.len()].copy_from_slice(bytes);
+        return at + bytes.len();
+    }
+    out[at..].copy_from_slice(&bytes[..room]);
+    out.len()
 }
 
 // Appends `key=value` and an LF.
+#[tactic(auto, unfolding(crate::specs::Text::line))]
 pub fn append_line(out: &mut [u8], at: usize, key: &[u8], value: u64) -> usize
     ensures { ◌≡◌ {A = Written} (record { list = out.new; end = result }) (appended (line key.now value) out.old at) }
 {
@@ -34,6 +37,7 @@ pub fn append_line(out: &mut [u8], at: usize, key: &[u8], value: u64) -> usize
 }
 
 // Appends `key=-value` and an LF.
+#[tactic(auto, unfolding(crate::specs::Text::minus_line))]
 pub fn append_minus_line(out: &mut [u8], at: usize, key: &[u8], value: u64) -> usize
     ensures { ◌≡◌ {A = Written} (record { list = out.new; end = result }) (appended (minus_line key.now value) out.old at) }
 {
@@ -41,6 +45,7 @@ pub fn append_minus_line(out: &mut [u8], at: usize, key: &[u8], value: u64) -> u
 }
 
 // Appends the key, the mark that stands before the value, the value and an LF.
+#[tactic(auto, using(crate::specs::TextLaws::appended_then))]
 fn append_marked(out: &mut [u8], at: usize, key: &[u8], mark: &[u8], value: u64) -> usize
     ensures { ◌≡◌ {A = Written} (record { list = out.new; end = result })
         (appended (key.now ++ (mark.now ++ decimal value) ++ (10 ∷ [])) out.old at) }

@@ -1,7 +1,7 @@
 -- The five steps by the list of running rows are those of the plan, and a tick by it is the plan's tick.
-use Prim.Native.Nat.{ℕ, suc, ◌+◌, ◌≤◌, ◌<◌}
-use Rattle.std.specs.Prelude.{◌≡◌, refl, cond}
-use Rattle.std.proofs.Common.{◌∙◌}
+use Prim.Native.Nat.{ℕ, suc, ◌+◌, ◌<◌}
+use Rattle.std.specs.Prelude.{◌≡◌, refl, Bool, cond, Ok, Err, length}
+use Rattle.std.proofs.Common.{◌∙◌, ap}
 use mathlib.Core.List.{List, []}
 use native.Mathlib.Omega.{arith}
 use Rattle.facts.specs.Tests.{lowest}
@@ -14,16 +14,15 @@ use Rattle.guards.specs.Moment.{moment_of, state_with}
 use Rattle.guards.specs.Running.{running, runs}
 use Rattle.guards.specs.Machine.{worked, before_release, due, ticked}
 use Rattle.guards.specs.Rows.{Rows, plan_from}
-use Rattle.guards.specs.Calls.{is_done, wrong_done, used_up}
-use Rattle.guards.specs.Lent.{state_of, outcome_of, refused_at, taken_at}
-use Rattle.guards.specs.LentCalls.{leaves}
+use Rattle.guards.specs.Calls.{is_done, stays, taken, wrong_done, used_up}
 use Rattle.table.specs.Refusals.{last_clock}
-use Rattle.guards.specs.declared.state.Called.{Called}
+use Rattle.table.specs.declared.refusal.Refusal.{Refusal}
 use Rattle.table.specs.declared.refusal.Refusal.TheVariants.{WrongDoneByte, TimeUsedUp}
-use Rattle.ticks.specs.Done.{wrong_here, up_here}
+use Rattle.ticks.specs.Done.{wrong_here, up_here, refusing}
 use Rattle.ticks.specs.Steps.{chains, readied, stepped, ran, runs_in, ends_in}
-use Rattle.ticks.specs.Ticking.{Ready, told, clock_tick}
+use Rattle.ticks.specs.Ticking.{Ready, Going, told, clock_tick}
 use Rattle.ticks.specs.SameLaws.{Same, Chained, with_same, opened_same, due_same, let_go_same}
+use Rattle.ticks.proofs.DoneLemmas.{was_refused, was_passed}
 use Rattle.ticks.specs.TickingLaws.{running_here, wrong_lowest, up_lowest, done_wrong, done_up, done_made}
 
 -- The list of running rows.
@@ -70,37 +69,52 @@ module _ (R : Rows) (processor priority time : List ℕ) (σ : State) {list : Li
         ≡ filled (λ r. cond (due plan (before_release plan (moment_of σ) (is_done done)) r) 1 0) R.count released
     bytes_ticked done released = filled_ext _ _ R.count released (λ r l. rw (due_same (readied_is done) chained r l))
 
--- The same of what is found by the list of running rows, and of what the steps by it make.
+-- What is found by the list of running rows, and what the steps by it make, is the plan's tick.
 module _
     (R : Rows) (processors : ℕ) (processor priority time : List ℕ) (σ : State) {list : List ℕ}
-    (e : list ≡ tab (running (plan_from R.count [] [] processor priority []) (moment_of σ)) 17)
-    (ready : Ready R processors processor priority time σ) (done out : List ℕ) (n : σ.clock ≡ last_clock → ⊥) {w : ℕ}
-    (f : w ≡ lowest processors (λ i. wrong_here (at done i) (at list (suc i)))) where
+    (e : list ≡ tab (running (plan_from R.count [] [] processor priority []) (moment_of σ)) 17) (done out : List ℕ)
+    (going : Going R processors processor priority time σ done out) (n : σ.clock ≡ last_clock → ⊥) where
   abbrev whole : Plan
   whole = plan_from R.count R.period R.first processor priority time
 
-  wrong_is : w ≡ lowest processors (wrong_done whole (moment_of σ) done)
-  wrong_is = f ∙ wrong_lowest R processor priority time σ e processors done ready.listed.processors_most
+  abbrev wrong_at : ℕ → Bool
+  wrong_at i = wrong_here (at done i) (at list (suc i))
+
+  abbrev up_at : ℕ → Bool
+  up_at i = up_here σ.used time (at done i) (at list (suc i))
+
+  wrong_is : lowest (length done) wrong_at ≡ lowest processors (wrong_done whole (moment_of σ) done)
+  wrong_is = rw going.done_long (wrong_lowest R processor priority time σ e processors done going.ready.listed.processors_most)
+
+  up_is : lowest (length done) up_at ≡ lowest processors (used_up whole (moment_of σ) done)
+  up_is = rw going.done_long (up_lowest R processor priority time σ e processors done going.ready.listed.processors_most)
 
   pub list_wrong :
-      {o : Called} → o ≡ refused_at (WrongDoneByte (w + 1)) σ.clock → w < processors
-      → told out (leaves σ o) ≡ clock_tick processors whole σ done out
-  list_wrong a m = done_wrong processors whole σ done out n wrong_is a m
+      {refusal : Refusal} → refusing (length done) wrong_at (λ k. WrongDoneByte k) ≡ Err refusal
+      → stays refusal σ out ≡ clock_tick processors whole σ done out
+  list_wrong q =
+      let r = was_refused (length done) wrong_at (λ k. WrongDoneByte k) _ q in
+      ap (λ (x : Refusal). stays x σ out) r.0
+      ∙ done_wrong processors whole σ done out n wrong_is (omega (arith, r.1, going.done_long))
 
-  module _ (l : processors ≤ w) {u : ℕ} (g : u ≡ lowest processors (λ i. up_here σ.used time (at done i) (at list (suc i)))) where
-    up_is : u ≡ lowest processors (used_up whole (moment_of σ) done)
-    up_is = g ∙ up_lowest R processor priority time σ e processors done ready.listed.processors_most
-
+  module _ (passed : refusing (length done) wrong_at (λ k. WrongDoneByte k) ≡ Ok tt) where
     pub list_up :
-        {o : Called} → o ≡ refused_at (TimeUsedUp (u + 1)) σ.clock → u < processors
-        → told out (leaves σ o) ≡ clock_tick processors whole σ done out
-    list_up a m = done_up processors whole σ done out n wrong_is l a up_is m
+        {refusal : Refusal} → refusing (length done) up_at (λ k. TimeUsedUp k) ≡ Err refusal
+        → stays refusal σ out ≡ clock_tick processors whole σ done out
+    list_up q =
+        let r = was_refused (length done) up_at (λ k. TimeUsedUp k) _ q in
+        let l = was_passed (length done) wrong_at (λ k. WrongDoneByte k) passed in
+        ap (λ (x : Refusal). stays x σ out) r.0
+        ∙ done_up processors whole σ done out n wrong_is (omega (arith, l, going.done_long)) up_is (omega (arith, r.1, going.done_long))
 
     pub list_made :
-        {o : Called} {released completed used guard bytes : List ℕ} → o ≡ taken_at (σ.clock + 1) (σ.clock + 1) → processors ≤ u
-        → state_of (σ.clock + 1) released completed used guard ≡ state_with R.count (stepped R processor list done σ) σ
+        {τ : State} {bytes : List ℕ} → refusing (length done) up_at (λ k. TimeUsedUp k) ≡ Ok tt
+        → τ ≡ state_with R.count (stepped R processor list done σ) σ
         → bytes ≡ filled (λ r. cond (due (chains R processor) (readied R processor list done σ) r) 1 0) R.count out
-        → told bytes (outcome_of o released completed used guard) ≡ clock_tick processors whole σ done out
-    list_made a m state bytes =
-        done_made processors whole σ done out n wrong_is l a up_is m (state ∙ ticked_made R processor priority time σ e ready done)
-        (bytes ∙ bytes_ticked R processor priority time σ e ready done out)
+        → told bytes (taken (σ.clock + 1) τ) ≡ clock_tick processors whole σ done out
+    list_made q state bytes =
+        let l = was_passed (length done) wrong_at (λ k. WrongDoneByte k) passed in
+        let m = was_passed (length done) up_at (λ k. TimeUsedUp k) q in
+        done_made processors whole σ done out n wrong_is (omega (arith, l, going.done_long)) up_is (omega (arith, m, going.done_long))
+        (state ∙ ticked_made R processor priority time σ e going.ready done)
+        (bytes ∙ bytes_ticked R processor priority time σ e going.ready done out)

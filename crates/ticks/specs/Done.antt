@@ -1,6 +1,8 @@
 -- What is wrong with a done byte, given the row that runs: 0 for none, suc j for row j.
-use Rattle.std.specs.Prelude.{ℕ, pred, ◌+◌, ◌≤◌, ◌<◌, Bool, ◌&&◌, ◌||◌, List, ltb, eqb, length}
+use Rattle.std.specs.Prelude.{ℕ, pred, ◌+◌, ◌≤◌, ◌<◌, Bool, cond, ◌&&◌, ◌||◌, List, ltb, eqb, length, Result, Ok, Err, ⊤}
+use Rattle.facts.specs.Tests.{lowest}
 use Rattle.table.specs.Table.{at}
+use Rattle.table.specs.declared.refusal.Refusal.{Refusal}
 
 -- It is above 1, or 1 where nothing runs.
 unfoldable pub wrong_here : ℕ → ℕ → Bool
@@ -21,3 +23,7 @@ pub record Timely (running : ℕ) (used time : List ℕ) : Type 0 where
   pub used_long : running ≤ length used
   pub time_long : running ≤ length time
   pub used_most : 0 < running → at used (pred running) ≤ 1000000
+
+-- The lowest of n processors that the test finds is refused, by its number from 1.
+unfoldable pub refusing : ℕ → (ℕ → Bool) → (ℕ → Refusal) → Result ⊤ Refusal
+refusing n test refusal = cond (ltb (lowest n test) n) (Err (refusal (lowest n test + 1))) (Ok tt)

@@ -1,3 +1,4 @@
+pub mod Numbers
 pub mod Steps
 pub mod FoundLaws
 pub mod Done

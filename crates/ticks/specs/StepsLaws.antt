@@ -11,7 +11,7 @@ use Rattle.guards.specs.Machine.{idle, opened, due, let_go}
 use Rattle.guards.specs.Rows.{Rows, plan_from}
 use Rattle.guards.specs.Lent.{Long, state_of}
 use Rattle.guards.specs.ListsLaws.{filled_own}
-use Rattle.ticks.specs.Steps.{Placed, Releasing, Stepping, chains, completed_in, used_in, guard_in, ran, runs_in, ends_in, opened_where, first_in, idle_in, readied, stepped}
+use Rattle.ticks.specs.Steps.{Placed, Releasing, Stepping, chains, completed_in, used_in, guard_in, ran, opened_where, first_in, idle_in, readied}
 use Rattle.ticks.specs.SameLaws.{Same, Chained, same_trans, with_says, with_same, with_long, with_again, idle_same, due_same, let_go_same}
 
 -- Step 5 reads no used ticks.
@@ -59,7 +59,7 @@ not_not : (b : Bool) → not (not b) ≡ b
 not_not true = refl
 not_not false = refl
 
--- w is what steps 1 to 3 make of the rows, and one, two and three are the states after step 3, 4 and 5.
+-- w is what steps 1 to 3 make of the rows, and one and two are the states after step 3 and 4.
 module _ (R : Rows) (processor : List ℕ) (p : Placed R.count processor) (w : Moment) (σ : State) (z : Long R.count σ) where
   abbrev chained_plan : Plan
   chained_plan = chains R processor
@@ -89,93 +89,59 @@ module _ (R : Rows) (processor : List ℕ) (p : Placed R.count processor) (w : M
     pub after_four : Same R.count (moment_of two) (opened chained_plan w)
     after_four = rw e₂ (same_trans (with_says R.count _ one) opened_is)
 
-    chained : Chained R.count (plan_from R.count R.period R.first [] [] []) (plan_from R.count R.period R.first [] [] [])
-    chained = record { left = refl; right = refl; period = λ r l. refl; first = λ r l. refl; processor = λ r l. refl }
+    -- Steps 1 to 4 make what the plan says of the first state.
+    pub four_made : two ≡ state_with R.count (opened chained_plan w) σ
+    four_made =
+        e₂ ∙ with_same opened_is one
+        ∙ ap (λ (τ : State). state_with R.count (opened chained_plan w) τ) e₁
+        ∙ with_again R.count (opened chained_plan w) w σ z
 
-    -- What is made of the last state is made of the first.
-    remade : (m : Moment) → state_with R.count m two ≡ state_with R.count m σ
-    remade m =
-        let over : Long R.count one = rw e₁ (with_long R.count w σ z) in
-        ap (λ (τ : State). state_with R.count m τ) e₂
-        ∙ with_again R.count m _ one over
-        ∙ ap (λ (τ : State). state_with R.count m τ) e₁
-        ∙ with_again R.count m w σ z
+-- w is what steps 1 to 4 make of the rows of σ. Step 5 reads no processor.
+module _ (R : Rows) (processor : List ℕ) (w : Moment) (σ : State) (z : Long R.count σ) {two : State} (e : two ≡ state_with R.count w σ) where
+  says_four : Same R.count (moment_of two) w
+  says_four = rw e (with_says R.count w σ)
 
-    -- Step 5 reads no processor.
-    pub steps_made :
-        {three : State}
-        → three ≡ state_with R.count (let_go (plan_from R.count R.period R.first [] [] []) (moment_of two)) two
-        → three ≡ state_with R.count (let_go chained_plan (opened chained_plan w)) σ
-    unfolding let_go due
-    steps_made e₃ = e₃ ∙ with_same (let_go_same after_four chained) two ∙ remade (let_go chained_plan (opened chained_plan w))
+  chained : Chained R.count (plan_from R.count R.period R.first [] [] []) (plan_from R.count R.period R.first [] [] [])
+  chained = record { left = refl; right = refl; period = λ r l. refl; first = λ r l. refl; processor = λ r l. refl }
 
-    pub bytes_made :
-        (bytes list : List ℕ)
-        → bytes ≡ filled (λ r. cond (due (plan_from R.count R.period R.first [] [] []) (moment_of two) r) 1 0) R.count list
-        → bytes ≡ filled (λ r. cond (due chained_plan (opened chained_plan w) r) 1 0) R.count list
-    unfolding due
-    bytes_made bytes list e = e ∙ filled_ext _ _ R.count list (λ r l. rw (due_same after_four chained r l))
+  -- All five make what the plan says of the first state,
+  pub steps_made :
+      {three : State}
+      → three ≡ state_with R.count (let_go (plan_from R.count R.period R.first [] [] []) (moment_of two)) two
+      → three ≡ state_with R.count (let_go (chains R processor) w) σ
+  unfolding let_go due
+  steps_made e₃ =
+      e₃ ∙ with_same (let_go_same says_four chained) two
+      ∙ ap (λ (τ : State). state_with R.count (let_go (chains R processor) w) τ) e
+      ∙ with_again R.count (let_go (chains R processor) w) w σ z
 
--- The steps on lists: what each has made of its lists, and what they come to.
-module _
-    (R : Rows) (processor running done : List ℕ) (σ : State) (out : List ℕ) (k : Stepping R processor running done σ out)
-    {completed used guard : List ℕ} {busy : List Bool}
-    (a : completed ≡ filled (completed_in (runs_in processor running) (ends_in processor done) σ.completed) R.count σ.completed)
-    (b : used ≡ filled (used_in (runs_in processor running) (ends_in processor done) σ.used) R.count σ.used)
-    (c : (clock : ℕ) (used guard : List ℕ) → busy ≡ tab (λ x. not (idle (plan_from R.count [] [] processor [] []) (moment_of (state_of clock σ.released completed used guard)) x)) 17)
-    (d : guard ≡ filled (guard_in (first_in R.first) (idle_in processor busy) (σ.clock + 1) σ.guard) R.count σ.guard) where
-  abbrev one : State
-  one = state_of (σ.clock + 1) σ.released completed used σ.guard
+  -- and a byte for each row.
+  pub bytes_made :
+      {bytes : List ℕ} (list : List ℕ)
+      → bytes ≡ filled (λ r. cond (due (plan_from R.count R.period R.first [] [] []) (moment_of two) r) 1 0) R.count list
+      → bytes ≡ filled (λ r. cond (due (chains R processor) w r) 1 0) R.count list
+  unfolding due
+  bytes_made list e₅ = e₅ ∙ filled_ext _ _ R.count list (λ r l. rw (due_same says_four chained r l))
 
-  abbrev two : State
-  two = state_of (σ.clock + 1) σ.released completed used guard
-
-  abbrev chain : Plan
-  chain = plan_from R.count R.period R.first [] [] []
-
-  one_is : one ≡ state_with R.count (ran (runs_in processor running) (ends_in processor done) (moment_of σ)) σ
-  one_is = work_made R.count σ k.long (runs_in processor running) (ends_in processor done) a b
-
-  one_long : Long R.count one
-  one_long = subst (λ (τ : State). Long R.count τ) (sym one_is) (with_long R.count _ σ k.long)
-
-  two_is : two ≡ state_with R.count (opened_where (first_in R.first) (idle_in processor busy) (moment_of one)) one
-  two_is = open_made R.count one one_long (first_in R.first) (idle_in processor busy) d
-
-  two_long : Long R.count two
-  two_long = subst (λ (τ : State). Long R.count τ) (sym two_is) (with_long R.count _ one one_long)
-
-  -- Step 5 has what it asks,
-  pub releasing : Releasing R.count R.period R.first (σ.clock + 1) σ.released completed guard out
-  releasing = record {
-    some = k.some;
-    few = k.placed.few;
-    period_long = k.period_long;
-    first_long = k.first_long;
-    released_long = k.long.released;
-    completed_long = one_long.completed;
-    guard_long = two_long.guard;
-    out_long = k.released_long;
-    clock_most = omega (arith, k.clock_below);
-    released_most = k.released_most;
-    period_most = k.period_most;
-  }
-
-  -- and the five make the state and the bytes.
-  pub lent_steps :
-      {released last : List ℕ} → released ≡ filled (let_go chain (unused two)).released R.count σ.released
-      → last ≡ filled (let_go chain (unused two)).guard R.count guard
-      → state_of (σ.clock + 1) released completed used last ≡ state_with R.count (stepped R processor running done σ) σ
-  unfolding stepped readied
-  lent_steps e f =
-      steps_made R processor k.placed (ran (runs_in processor running) (ends_in processor done) (moment_of σ)) σ k.long
-      one_is (c (σ.clock + 1) used σ.guard) two_is (let_go_made R.count two two_long chain e f)
-
-  pub lent_bytes :
-      {bytes : List ℕ} → bytes ≡ filled (λ r. cond (due chain (unused two) r) 1 0) R.count out
-      → bytes ≡ filled (λ r. cond (due (chains R processor) (readied R processor running done σ) r) 1 0) R.count out
-  unfolding readied
-  lent_bytes {bytes} e =
-      bytes_made R processor k.placed (ran (runs_in processor running) (ends_in processor done) (moment_of σ)) σ k.long
-      one_is (c (σ.clock + 1) used σ.guard) two_is bytes out
-      (e ∙ filled_ext _ _ R.count out (λ r l. rw (due_unused chain two r)))
+-- After step 4 step 5 has what it asks.
+pub releasing :
+    (R : Rows) (processor running done : List ℕ) (σ : State) (out : List ℕ) → Stepping R processor running done σ out
+    → {two : State} → two ≡ state_with R.count (readied R processor running done σ) σ
+    → Releasing R.count R.period R.first two.clock two.released two.completed two.guard out
+unfolding readied opened ran moment_of
+releasing R processor running done σ out k {two} e =
+    let z : Long R.count two = subst (Long R.count) (sym e) (with_long R.count (readied R processor running done σ) σ k.long) in
+    let s : Same R.count (moment_of two) (readied R processor running done σ) = rw e (with_says R.count (readied R processor running done σ) σ) in
+    record {
+      some = k.some;
+      few = k.placed.few;
+      period_long = k.period_long;
+      first_long = k.first_long;
+      released_long = z.released;
+      completed_long = z.completed;
+      guard_long = z.guard;
+      out_long = k.released_long;
+      clock_most = omega (arith, s.clock, k.clock_below);
+      released_most = λ r l. omega (arith, s.released r l, k.released_most r l);
+      period_most = k.period_most;
+    }

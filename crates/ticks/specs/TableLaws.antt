@@ -20,11 +20,10 @@ use Rattle.guards.specs.Fits.{fits}
 use Rattle.guards.specs.Rows.{Rows, plan_from}
 use Rattle.guards.specs.Calls.{TickOutcome, is_done, released_byte, stays, taken, tick, used_up, wrong_done}
 use Rattle.guards.specs.LentLaws.{held, rows_fit_lent, tick_lent_no_plan, tick_lent_short, tick_lent_held}
-use Rattle.guards.specs.LentCalls.{leaves, fits_held, held_when_fits_held, fits_fits}
-use Rattle.guards.specs.declared.state.Called.{Called}
+use Rattle.guards.specs.LentCalls.{fits_held, held_when_fits_held, fits_fits}
 use Rattle.guards.specs.RowsLaws.{RowsOf}
-use Rattle.guards.specs.Lent.{refused_at, tick_on_lists}
-use Rattle.ticks.specs.Ticking.{Listed, done_tick, clock_tick, open_tick, rows_tick, told}
+use Rattle.guards.specs.Lent.{tick_on_lists}
+use Rattle.ticks.specs.Ticking.{Listed, done_tick, clock_tick, open_tick, rows_tick}
 use Rattle.ticks.specs.FoundLaws.{best_ext}
 use Rattle.ticks.specs.TickingLaws.{lowest_ext}
 use Rattle.ticks.specs.SameLaws.{Same, Chained, with_same, opened_same, due_same, let_go_same}
@@ -128,12 +127,9 @@ module _ {T : Table} {R : Rows} (o : RowsOf T R) (σ : State) where
 
 -- The answers of a tick on lists: 5, and a tick of the plan's rows.
 module _ (T : Table) (σ : State) (done out : List ℕ) where
-  pub tick_none :
-      {o : Called} → o ≡ refused_at NotAPlan σ.clock → is_plan T ≡ false
-      → told out (leaves σ o) ≡ tick_on_lists T σ out (tick T σ done out)
+  pub tick_none : is_plan T ≡ false → stays NotAPlan σ out ≡ tick_on_lists T σ out (tick T σ done out)
   unfolding tick
-  tick_none e p =
-      ap (λ (o : Called). told out (leaves σ o)) e ∙ sym (tick_lent_no_plan T σ out (tick T σ done out) p ∙ rw p)
+  tick_none p = sym (tick_lent_no_plan T σ out (tick T σ done out) p ∙ rw p)
 
   tick_unfit : is_plan T ≡ true → fits_held T σ ≡ false → stays StateDoesNotFit σ out ≡ tick_on_lists T σ out (tick T σ done out)
   unfolding tick

@@ -7,7 +7,7 @@ use Rattle.table.specs.Plan.{Plan}
 use Rattle.table.specs.Refusals.{last_clock}
 use Rattle.table.specs.declared.refusal.Refusal.TheVariants.{TooShort, WrongDoneLength, WrongDoneByte, TimeUsedUp, ClockAtEnd, StateDoesNotFit}
 use Rattle.guards.specs.declared.state.State.{State}
-use Rattle.guards.specs.declared.state.Outcome.{Outcome}
+use Rattle.guards.specs.Outcome.{Outcome}
 use Rattle.guards.specs.Moment.{moment_of, state_with}
 use Rattle.guards.specs.Machine.{before_release, due, ticked}
 use Rattle.guards.specs.Rows.{Rows, plan_from}

@@ -16,15 +16,13 @@ use Rattle.guards.specs.Moment.{moment_of, state_with}
 use Rattle.guards.specs.Running.{is_open, running}
 use Rattle.guards.specs.Machine.{before_release, due, ticked}
 use Rattle.guards.specs.Rows.{Rows, plan_from}
-use Rattle.guards.specs.Calls.{is_done, taken, wrong_done, used_up}
-use Rattle.guards.specs.Lent.{state_of, outcome_of, refused_at, taken_at, stand, rows_fit_in}
-use Rattle.guards.specs.LentCalls.{leaves}
+use Rattle.guards.specs.Calls.{is_done, stays, taken, wrong_done, used_up}
+use Rattle.guards.specs.Lent.{stand, rows_fit_in}
 use Rattle.guards.specs.LentLaws.{held, held_long}
 use Rattle.guards.specs.PartsLaws.{rows_fit_listed}
 use Rattle.guards.specs.BoundsLaws.{bounded}
 use Rattle.facts.specs.TestsLaws.{and_left, and_right}
 use Rattle.table.specs.Refusals.{last_clock}
-use Rattle.guards.specs.declared.state.Called.{Called}
 use Rattle.table.specs.declared.refusal.Refusal.TheVariants.{WrongDoneByte, TimeUsedUp, ClockAtEnd}
 use Rattle.ticks.specs.Done.{wrong_here, up_here, Timely}
 use Rattle.ticks.specs.Steps.{Stepping}
@@ -128,36 +126,27 @@ module _ (R : Rows) (processor priority time : List ℕ) (σ : State) {list : Li
       released_long = k.released_long;
     }
 
--- The answers of a tick on lists, from 13 on.
+-- The answers of a tick, from 13 on.
 module _ (processors : ℕ) (P : Plan) (σ : State) (done out : List ℕ) where
-  pub clock_end :
-      {o : Called} → o ≡ refused_at ClockAtEnd σ.clock → σ.clock ≡ last_clock
-      → told out (leaves σ o) ≡ clock_tick processors P σ done out
+  pub clock_end : σ.clock ≡ last_clock → stays ClockAtEnd σ out ≡ clock_tick processors P σ done out
   unfolding clock_tick
-  clock_end e l = ap (λ (o : Called). told out (leaves σ o)) e ∙ rw (eq-eqb _ _ l)
+  clock_end l = rw (eq-eqb _ _ l)
 
   module _ (n : σ.clock ≡ last_clock → ⊥) {w : ℕ} (f : w ≡ lowest processors (wrong_done P (moment_of σ) done)) where
-    pub done_wrong :
-        {o : Called} → o ≡ refused_at (WrongDoneByte (w + 1)) σ.clock → w < processors
-        → told out (leaves σ o) ≡ clock_tick processors P σ done out
+    pub done_wrong : w < processors → stays (WrongDoneByte (w + 1)) σ out ≡ clock_tick processors P σ done out
     unfolding clock_tick done_tick
-    done_wrong e l = ap (λ (o : Called). told out (leaves σ o)) e ∙ rw (ne_eqb _ _ n, ← f, lt-ltb _ _ l)
+    done_wrong l = rw (ne_eqb _ _ n, ← f, lt-ltb _ _ l)
 
-    module _ (l : processors ≤ w) where
-      pub done_up :
-          {o : Called} {u : ℕ} → o ≡ refused_at (TimeUsedUp (u + 1)) σ.clock
-          → u ≡ lowest processors (used_up P (moment_of σ) done) → u < processors
-          → told out (leaves σ o) ≡ clock_tick processors P σ done out
+    module _ (l : processors ≤ w) {u : ℕ} (g : u ≡ lowest processors (used_up P (moment_of σ) done)) where
+      pub done_up : u < processors → stays (TimeUsedUp (u + 1)) σ out ≡ clock_tick processors P σ done out
       unfolding clock_tick done_tick
-      done_up e g m = ap (λ (o : Called). told out (leaves σ o)) e ∙ rw (ne_eqb _ _ n, ← f, le-ltb _ _ l, ← g, lt-ltb _ _ m)
+      done_up m = rw (ne_eqb _ _ n, ← f, le-ltb _ _ l, ← g, lt-ltb _ _ m)
 
       pub done_made :
-          {o : Called} {u : ℕ} {released completed used guard bytes : List ℕ} → o ≡ taken_at (σ.clock + 1) (σ.clock + 1)
-          → u ≡ lowest processors (used_up P (moment_of σ) done) → processors ≤ u
-          → state_of (σ.clock + 1) released completed used guard ≡ state_with P.rows (ticked P (moment_of σ) (is_done done)) σ
+          {τ : State} {bytes : List ℕ} → processors ≤ u
+          → τ ≡ state_with P.rows (ticked P (moment_of σ) (is_done done)) σ
           → bytes ≡ filled (λ r. cond (due P (before_release P (moment_of σ) (is_done done)) r) 1 0) P.rows out
-          → told bytes (outcome_of o released completed used guard) ≡ clock_tick processors P σ done out
+          → told bytes (taken (σ.clock + 1) τ) ≡ clock_tick processors P σ done out
       unfolding clock_tick done_tick
-      done_made {o} {u} {released} {completed} {used} {guard} {bytes} e g m state list =
-          ap (λ (o : Called). told bytes (outcome_of o released completed used guard)) e
-          ∙ rw (ne_eqb _ _ n, ← f, le-ltb _ _ l, ← g, le-ltb _ _ m) (λ i. record { outcome = taken (σ.clock + 1) (state i); released = list i })
+      done_made m state list =
+          rw (ne_eqb _ _ n, ← f, le-ltb _ _ l, ← g, le-ltb _ _ m) (λ i. record { outcome = taken (σ.clock + 1) (state i); released = list i })

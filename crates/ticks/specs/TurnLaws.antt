@@ -20,7 +20,7 @@ module _ (f : ℕ → ℕ) (r : ℕ) (l : List ℕ) {k : List ℕ} (e : k ≡ fi
 module _
     (P : Plan) (m : Moment) (r : ℕ) {count own before : ℕ} {d : Bool} (a : count ≡ m.released r) (b : own ≡ m.guard r)
     (k : before ≡ m.completed (pred r)) (e : d ≡ not (P.first r) && (ltb count before && leb own m.clock)) where
-  due_is : d ≡ due P m r
+  pub due_is : d ≡ due P m r
   unfolding due
   due_is = e ∙ rw (a, b, k)
 

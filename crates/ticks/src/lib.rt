@@ -2,7 +2,6 @@
 
 #![tactic(auto)]
 
-mod choice;
 mod done;
 mod release;
 mod running;

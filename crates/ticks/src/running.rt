@@ -1,49 +1,50 @@
 // Which row runs on a processor.
 
-ghost use Rattle.std.specs.Prelude.{◌≡◌, cond, List, [], ℕ, ◌≤◌, ◌<◌, length};
+ghost use Rattle.std.specs.Prelude.{◌≡◌, cond, [], ◌≤◌, ◌<◌, length};
 ghost use Rattle.facts.specs.Filled.{tab};
 ghost use Rattle.guards.specs.Moment.{moment_of};
-ghost use Rattle.guards.specs.Lent.{state_of};
 ghost use Rattle.guards.specs.Running.{better, running};
 ghost use Rattle.guards.specs.Rows.{plan_from};
+ghost use Rattle.ticks.specs.Numbers.{number, numbers};
 ghost use Rattle.ticks.specs.Steps.{Placed};
 
-// The row to run, counted from 1, among the best so far and one candidate more: the more urgent, and of equals the best so
-// far.
-fn next_best(candidate: bool, best: usize, row: usize, priority: &[u64]) -> usize
-    requires { (best ≤ row) × (row < length priority.now) }
-    ensures { result ≡ cond candidate (better (plan_from 0 [] [] [] priority.now []) best row) best }
+use guards::run::StateView;
+use table::view::TableView;
+
+// The row to run, among the best so far and one candidate more: the more urgent, and of equals the best so far.
+#[tactic(auto, unfolding(crate::specs::Numbers::number, guards::specs::Running::better))]
+fn next_best<T: TableView>(
+    table: &T,
+    best: Option<usize>,
+    row: usize,
+    candidate: bool,
+) -> Option<usize>
+    requires { (number best ≤ row) × (row < length (T.table table.now).priority) }
+    ensures { number result ≡ cond candidate (better (plan_from 0 [] [] [] (T.table table.now).priority []) (number best) row) (number best) }
 {
     if !candidate {
         return best;
     }
-    if best == 0 {
-        return row + 1;
+    match best {
+        Some(other) if table.priority(row) <= table.priority(other) => best,
+        _ => Some(row),
     }
-    if priority[best - 1] < priority[row] {
-        return row + 1;
-    }
-    best
 }
 
-// For each processor number up to 16 the row that runs, counted from 1, and 0 where none does.
-pub(crate) fn running_rows(
+// For each processor number up to 16 the row that runs.
+pub(crate) fn running_rows<T: TableView, S: StateView>(
+    table: &T,
+    state: &S,
     rows: usize,
-    processor: &[u64],
-    priority: &[u64],
-    released: &[u64],
-    completed: &[u64],
-) -> [usize; 17]
-    requires { Placed rows processor.now × (rows ≤ length priority.now) × (rows ≤ length released.now) × (rows ≤ length completed.now) }
-    ensures { (clock : ℕ) (used guard : List ℕ) → result ≡ tab (running (plan_from rows [] [] processor.now priority.now []) (moment_of (state_of clock released.now completed.now used guard))) 17 }
+) -> [Option<usize>; 17]
+    requires { Placed rows (T.table table.now).processor × (rows ≤ length (T.table table.now).priority) × (rows ≤ length (S.state state.now).released) × (rows ≤ length (S.state state.now).completed) }
+    ensures { numbers result ≡ tab (running (plan_from rows [] [] (T.table table.now).processor (T.table table.now).priority []) (moment_of (S.state state.now))) 17 }
 {
-    let mut found = [0usize; 17];
-    let mut row: usize = 0;
-    while row < rows {
-        let on = processor[row] as usize;
-        let open = completed[row] < released[row];
-        found[on] = next_best(open, found[on], row, priority);
-        row += 1;
+    let mut found = [None; 17];
+    for row in 0..rows {
+        let on = table.processor(row) as usize;
+        let open = state.completed(row) < state.released(row);
+        found[on] = next_best(table, found[on], row, open);
     }
     found
 }

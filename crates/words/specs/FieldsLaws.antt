@@ -29,6 +29,10 @@ unfolding field_within
 field_of l from step count h =
     all_of count (λ i. whole l (from + step * i)) (λ i lt. le-leb (8 * (from + step * i) + 8) (length l) (h i lt))
 
+-- A field of no words stands anywhere.
+pub field_none : (l : List ℕ) (from step : ℕ) → field_within l from step 0 ≡ true
+field_none l from step = field_of l from step 0 (λ i lt. absurd (omega arith))
+
 -- One word past the list's end puts the field outside.
 pub field_past :
     (l : List ℕ) (from step count i : ℕ) → i < count → length l < 8 * (from + step * i) + 8
@@ -101,6 +105,37 @@ pub with_field_no :
     → with_field l from step count values ≡ l
 unfolding with_field
 with_field_no l from step count values h = rw h
+
+-- The same, of each of the tests on the way.
+pub gathered_short :
+    (l : List ℕ) (from step count : ℕ) (out : List ℕ) → length out < count → out ≡ gathered l from step count out
+gathered_short l from step count out h = sym (gathered_no l from step count out (fits_short l from step count out h))
+
+pub gathered_outside :
+    (l : List ℕ) (from step count : ℕ) (out : List ℕ) → field_within l from step count ≡ false → out ≡ gathered l from step count out
+gathered_outside l from step count out h = sym (gathered_no l from step count out (fits_outside l from step count out h))
+
+pub gathered_whole :
+    (l : List ℕ) (from step count : ℕ) (out : List ℕ) → field_within l from step count ≡ true → count ≤ length out
+    → filled (λ i. word l (from + step * i)) count out ≡ gathered l from step count out
+gathered_whole l from step count out h room =
+    sym (gathered_yes l from step count out (fits_yes l from step count out h room))
+
+pub with_field_short :
+    (l : List ℕ) (from step count : ℕ) (values : List ℕ) → length values < count → l ≡ with_field l from step count values
+with_field_short l from step count values h =
+    sym (with_field_no l from step count values (fits_short l from step count values h))
+
+pub with_field_outside :
+    (l : List ℕ) (from step count : ℕ) (values : List ℕ) → field_within l from step count ≡ false → l ≡ with_field l from step count values
+with_field_outside l from step count values h =
+    sym (with_field_no l from step count values (fits_outside l from step count values h))
+
+pub with_field_whole :
+    (l : List ℕ) (from step count : ℕ) (values : List ℕ) → field_within l from step count ≡ true → count ≤ length values
+    → with_words l from step count values ≡ with_field l from step count values
+with_field_whole l from step count values h room =
+    sym (with_field_yes l from step count values (fits_yes l from step count values h room))
 
 -- No word is set yet, and one more word is set.
 pub with_words_none : (l : List ℕ) (from step : ℕ) (values : List ℕ) → l ≡ with_words l from step 0 values

@@ -1,10 +1,11 @@
 -- Laws of words.
 use Rattle.std.specs.Prelude.{ℕ, suc, ◌+◌, ◌*◌, ◌-◌, ◌/◌, ◌%◌, ◌^◌, ◌≤◌, ◌<◌, ◌≡◌, ◌≢◌, cond, List, ◌++◌, length, get_or, take, drop, set}
-use Rattle.std.proofs.Common.{sym, ◌∙◌, ap, arith, add-zero, div-one, mod-eq_of_lt, length-append, length-drop, length-take-le, get_or-take, get_or-drop, get_or-append-add, ext_get_or, le-leb}
+use Rattle.std.proofs.Common.{sym, ◌∙◌, ap, arith, add-zero, div-one, mod-eq_of_lt, refl, append_assoc, drop-drop, length-append, length-drop, length-take-le, get_or-take, get_or-drop, get_or-append-add, ext_get_or, le-leb}
 use Rattle.std.proofs.Math.Decide.{dec_le, dec_lt}
 use Rattle.std.proofs.Math.ListN.{get_or-append}
 use Rattle.std.proofs.lemmas.List.Edits.{sets-eq}
 use Rattle.std.proofs.lemmas.Bool.{lt-leb}
+use Rattle.std.specs.Int.{from_le_bytes, to_le_bytes, w64}
 use Rattle.facts.specs.Sums.{sum}
 use Rattle.facts.specs.SumsLaws.{sum_ext}
 use Rattle.facts.specs.Filled.{tab}
@@ -48,6 +49,34 @@ with_word_stores l k v h =
     let e₆ : 8 * k + 6 ≡ suc (suc (suc (suc (suc (suc (8 * k)))))) = omega arith in
     let e₇ : 8 * k + 7 ≡ suc (suc (suc (suc (suc (suc (suc (8 * k))))))) = omega arith in
     rw (le-leb (8 * k + 8) (length l) h, div-one v, e₁, e₂, e₃, e₄, e₅, e₆, e₇) (sets-eq _ l (8 * k) h)
+
+-- A word within the list is the number that std reads of its eight bytes,
+pub word_of_le : (l : List ℕ) (k : ℕ) → 8 * k + 8 ≤ length l → word l k ≡ from_le_bytes w64 (take 8 (drop (8 * k) l))
+word_of_le l k h =
+    let first : get_or (take 8 (drop (8 * k) l)) 0 0 ≡ get_or l (8 * k) 0 = rw (add-zero (8 * k)) at (at 0 (omega arith)) in
+    rw (word_reads l k h)
+    (omega (
+      arith,
+      first,
+      at 1 (omega arith),
+      at 2 (omega arith),
+      at 3 (omega arith),
+      at 4 (omega arith),
+      at 5 (omega arith),
+      at 6 (omega arith),
+      at 7 (omega arith),
+    ))
+  where
+    at : (i : ℕ) → i < 8 → get_or (take 8 (drop (8 * k) l)) i 0 ≡ get_or l (8 * k + i) 0
+    at i lt = get_or-take 8 (drop (8 * k) l) i 0 lt ∙ get_or-drop (8 * k) l i 0
+
+-- and a word set within the list is the eight bytes that std writes of it.
+pub with_word_of_le :
+    (l : List ℕ) (k v : ℕ) → 8 * k + 8 ≤ length l
+    → with_word l k v ≡ take (8 * k) l ++ (to_le_bytes w64 v ++ drop 8 (drop (8 * k) l))
+unfolding with_word bytes tab
+with_word_of_le l k v h =
+    rw (le-leb (8 * k + 8) (length l) h, div-one v, append_assoc, drop-drop 8 (8 * k) l) refl
 
 -- A list b of n entries put in the place of those of l from at on.
 module _ (l b : List ℕ) (at n : ℕ) (size : length b ≡ n) (fits : at + n ≤ length l) where

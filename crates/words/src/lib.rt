@@ -1,10 +1,14 @@
 // Unsigned 64-bit little-endian words of eight bytes in lent lists of bytes: one word, and fields of words at equal steps.
 #![tactic(auto)]
 
-ghost use Rattle.std.specs.Prelude.{◌≡◌, ℕ, ◌+◌, ◌*◌, ◌≤◌, ◌<◌, length, get_or};
+ghost use Rattle.std.specs.Prelude.{◌≡◌, ℕ, ◌+◌, ◌*◌, ◌≤◌, ◌<◌, length};
 ghost use Rattle.words.specs.Words.{word, with_word, field_within, gathered, with_field};
 
+use std::convert::TryFrom;
+
 // Word k of the list; 0 where the word does not stand whole within it.
+// No Option: `get` answers for every k, and `word` says 0 there.
+#[tactic(auto, using(crate::specs::WordsLaws::word_outside))]
 pub fn get(list: &[u8], k: usize) -> u64
     ensures { result ≡ word list.now k }
 {
@@ -12,6 +16,7 @@ pub fn get(list: &[u8], k: usize) -> u64
 }
 
 // Sets word k; a word that does not stand whole within the list is left alone.
+#[tactic(auto, using(crate::specs::WordsLaws::with_word_outside))]
 pub fn put(list: &mut [u8], k: usize, value: u64)
     ensures { list.new ≡ with_word list.old k value }
 {
@@ -22,6 +27,8 @@ pub fn put(list: &mut [u8], k: usize, value: u64)
 
 // Reads the field of count words at from, from + step, from + 2 step, .. into the first count numbers of out.
 // Where the field does not stand within the list, or out is shorter than count, out is left alone.
+// List, from, step and count are no struct, here and below: `gathered`, `with_field` and `field_within` in the contracts take each.
+#[tactic(auto, using(crate::specs::FieldsLaws::field_at, facts::specs::FilledLaws::filled_none, crate::specs::FieldsLaws::gathered_short, crate::specs::FieldsLaws::gathered_outside))]
 pub fn get_field(list: &[u8], from: usize, step: usize, count: usize, out: &mut [u64])
     ensures { out.new ≡ gathered list.now from step count out.old }
 {
@@ -29,16 +36,15 @@ pub fn get_field(list: &[u8], from: usize, step: usize, count: usize, out: &mut 
         return;
     }
     if field_within(list, from, step, count) {
-        let mut i: usize = 0;
-        while i < count {
+        for i in 0..count {
             out[i] = read(list, from + step * i);
-            i += 1;
         }
     }
 }
 
 // Sets the words of the field of count words at from, from + step, from + 2 step, .. to the first count numbers of values.
 // Where the field does not stand within the list, or values is shorter than count, the list is left alone.
+#[tactic(auto, using(crate::specs::FieldsLaws::field_at, crate::specs::FieldsLaws::with_words_none, crate::specs::FieldsLaws::with_words_more, crate::specs::FieldsLaws::with_field_short, crate::specs::FieldsLaws::with_field_outside, crate::specs::FieldsLaws::with_field_whole))]
 pub fn put_field(list: &mut [u8], from: usize, step: usize, count: usize, values: &[u64])
     ensures { list.new ≡ with_field list.old from step count values.now }
 {
@@ -46,15 +52,14 @@ pub fn put_field(list: &mut [u8], from: usize, step: usize, count: usize, values
         return;
     }
     if field_within(list, from, step, count) {
-        let mut i: usize = 0;
-        while i < count {
+        for i in 0..count {
             write(list, from + step * i, values[i]);
-            i += 1;
         }
     }
 }
 
 // Whether the field stands within the list. Its last word is compared by a quotient, since the product may not fit.
+#[tactic(auto, using(crate::specs::FieldsLaws::field_none, crate::specs::FieldsLaws::field_past, crate::specs::FieldsLaws::field_last, crate::specs::FieldsLaws::field_quotient))]
 fn field_within(list: &[u8], from: usize, step: usize, count: usize) -> bool
     ensures { result ≡ field_within list.now from step count }
 {
@@ -71,42 +76,24 @@ fn field_within(list: &[u8], from: usize, step: usize, count: usize) -> bool
     step <= (words - 1 - from) / (count - 1)
 }
 
-// Word k, which stands whole within the list. Eight reads in one sum, which the compiler makes one load.
+// Word k, which stands whole within the list.
+#[tactic(auto, using(crate::specs::WordsLaws::word_of_le))]
 fn read(list: &[u8], k: usize) -> u64
     requires { 8 * k + 8 ≤ length list.now }
     ensures { result ≡ word list.now k }
 {
-    let at = 8 * k;
-    byte(list, at)
-        + byte(list, at + 1) * 256
-        + byte(list, at + 2) * 65536
-        + byte(list, at + 3) * 16777216
-        + byte(list, at + 4) * 4294967296
-        + byte(list, at + 5) * 1099511627776
-        + byte(list, at + 6) * 281474976710656
-        + byte(list, at + 7) * 72057594037927936
+    match <[u8; 8]>::try_from(&list[8 * k..8 * k + 8]) {
+        Ok(bytes) => u64::from_le_bytes(bytes),
+        // Eight bytes are always eight: the arm is never taken, and asks for no panic.
+        Err(_) => 0,
+    }
 }
 
-// One byte of the list as a wide number.
-fn byte(list: &[u8], at: usize) -> u64
-    requires { at < length list.now }
-    ensures { (result ≡ get_or list.now at 0) × (result < 256) }
-{
-    list[at] as u64
-}
-
-// Sets word k, which stands whole within the list. Eight stores in a row, which the compiler makes one.
+// Sets word k, which stands whole within the list.
+#[tactic(auto, using(crate::specs::WordsLaws::with_word_of_le))]
 fn write(list: &mut [u8], k: usize, value: u64)
     requires { 8 * k + 8 ≤ length list.old }
     ensures { list.new ≡ with_word list.old k value }
 {
-    let at = 8 * k;
-    list[at] = (value % 256) as u8;
-    list[at + 1] = (value / 256 % 256) as u8;
-    list[at + 2] = (value / 65536 % 256) as u8;
-    list[at + 3] = (value / 16777216 % 256) as u8;
-    list[at + 4] = (value / 4294967296 % 256) as u8;
-    list[at + 5] = (value / 1099511627776 % 256) as u8;
-    list[at + 6] = (value / 281474976710656 % 256) as u8;
-    list[at + 7] = (value / 72057594037927936 % 256) as u8;
+    list[8 * k..8 * k + 8].copy_from_slice(&value.to_le_bytes());
 }

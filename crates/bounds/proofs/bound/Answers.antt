@@ -1,30 +1,51 @@
-use Rattle.std.proofs.Common.{refl}
-use Rattle.bounds.specs.Bounds.{lists_of}
-use Rattle.bounds.specs.BoundingLaws.{refusing_no_plan, planned, refusing_needed, none_needed, room, refused, chained, given}
+use Rattle.std.proofs.Common.{◌≡◌, Bool, true, false, ◌∙◌, Err, cond, refl, arith}
+use mir.Val.{bool_byte}
+use Rattle.bounds.specs.Bounds.{accepted}
+use Rattle.bounds.specs.Chains.{bounds_of}
+use Rattle.bounds.specs.Held.{lists_in}
+use Rattle.bounds.specs.Room.{needed_for}
+use Rattle.bounds.specs.BoundingLaws.{refusing_needed, none_needed, room, refused, chained, given}
 use Rattle.bounds.proofs.bound.Goals as goal
 
-pub returns-then-rows-eq0 : goal.returns-then-rows-eq0
-returns-then-rows-eq0 c = let a = c.args in
-    (refusing_no_plan a.processors a.tasks a.period.now a.deadline.now a.steps.now a.processor.now a.priority.now a.time.now c.rows_of-rows.ensures c.if-rows-eq0.true (lists_of a.busy.now a.instances.now a.bounds.now a.chains.now a.slack.now), refl)
+-- <defs>
+one_or_zero : (x : Bool) → bool_byte x ≡ cond x 1 0
+one_or_zero true = refl
+one_or_zero false = refl
 
-pub returns-then-short-ne0 : goal.returns-then-short-ne0
-returns-then-short-ne0 c = let a = c.args in
-    let q = planned a.processors a.tasks a.period.now a.deadline.now a.steps.now a.processor.now a.priority.now a.time.now c.rows_of-rows.ensures c.if-rows-eq0.false in
-    (refusing_needed a.processors a.tasks a.period.now a.deadline.now a.steps.now a.processor.now a.priority.now a.time.now q (lists_of a.busy.now a.instances.now a.bounds.now a.chains.now a.slack.now) c.room_needed-short.ensures c.if-short-ne0.true, refl)
+-- </defs>
+pub returns-in_err-check_room-clause-outcome : goal.returns-in_err-check_room-clause-outcome
+returns-in_err-check_room-clause-outcome g c =
+    let T = g.T.TableView.table c.args.table.now in
+    let plan = c.in_ok-rows.ensures in
+    let passed : c.from_residual-in_err-check_room.result ≡ Err c.in_err-check_room.field-0.0 = grind arith in
+    let short = rw c.tasks.ensures at c.in_err-check_room.ensures.short in
+    rw passed (refusing_needed T plan.0 plan.1 (lists_in c.args.out.now) short.0 short.1, refl)
 
-pub fill_chains-accepted-requires : goal.fill_chains-accepted-requires
-fill_chains-accepted-requires c = let a = c.args in
-    let q = planned a.processors a.tasks a.period.now a.deadline.now a.steps.now a.processor.now a.priority.now a.time.now c.rows_of-rows.ensures c.if-rows-eq0.false in
-    let left = room a.processors a.tasks a.period.now a.deadline.now a.steps.now a.processor.now a.priority.now a.time.now q (lists_of a.busy.now a.instances.now a.bounds.now a.chains.now a.slack.now) c.room_needed-short.ensures c.if-short-ne0.false in
-    (chained a.processors a.tasks a.period.now a.deadline.now a.steps.now a.processor.now a.priority.now a.time.now q (lists_of a.busy.now a.instances.now a.bounds.now a.chains.now a.slack.now) c.room_needed-short.ensures c.if-short-ne0.false _ _ c.row_bounds.ensures c.in-Rows.is, left.chain, left.slack)
+pub returns-in_err-fill_rows-clause-outcome : goal.returns-in_err-fill_rows-clause-outcome
+returns-in_err-fill_rows-clause-outcome g c =
+    let T = g.T.TableView.table c.args.table.now in
+    let plan = c.in_ok-rows.ensures in
+    let none : needed_for c.in_ok-rows.rows T.tasks (lists_in c.args.out.now) ≡ 0 = rw c.tasks.ensures at c.in_ok-check_room.ensures.room in
+    let passed : c.from_residual-in_err-fill_rows.result ≡ Err c.in_err-fill_rows.field-0.0 = grind arith in
+    let stay = c.fill_rows.ensures.stay in
+    rw (passed, stay.0, stay.1) (refused T plan.0 plan.1 (lists_in c.args.out.now) none _ _ c.fill_rows.ensures.outcome _ c.in_err-fill_rows.was)
 
-pub returns-in-Rows : goal.returns-in-Rows
-returns-in-Rows c = let a = c.args in
-    let q = planned a.processors a.tasks a.period.now a.deadline.now a.steps.now a.processor.now a.priority.now a.time.now c.rows_of-rows.ensures c.if-rows-eq0.false in
-    let summed = c.fill_chains-accepted.ensures in
-    (q.plan, none_needed a.processors a.tasks a.period.now a.deadline.now a.steps.now a.processor.now a.priority.now a.time.now q (lists_of a.busy.now a.instances.now a.bounds.now a.chains.now a.slack.now) c.room_needed-short.ensures c.if-short-ne0.false, given a.processors a.tasks a.period.now a.deadline.now a.steps.now a.processor.now a.priority.now a.time.now q (lists_of a.busy.now a.instances.now a.bounds.now a.chains.now a.slack.now) c.room_needed-short.ensures c.if-short-ne0.false _ _ c.row_bounds.ensures c.in-Rows.is summed.0 summed.1 summed.2)
+pub fill_chains-requires : goal.fill_chains-requires
+fill_chains-requires g c =
+    let T = g.T.TableView.table c.args.table.now in
+    let plan = c.in_ok-rows.ensures in
+    let none : needed_for c.in_ok-rows.rows T.tasks (lists_in c.args.out.now) ≡ 0 = rw c.tasks.ensures at c.in_ok-check_room.ensures.room in
+    let left = room T plan.0 plan.1 (lists_in c.args.out.now) none in
+    let stay = c.fill_rows.ensures.stay in record {
+      chained = chained T plan.0 plan.1 (lists_in c.args.out.now) none _ _ c.fill_rows.ensures.outcome c.in_ok-fill_rows.was;
+      room = rw (stay.0, stay.1) (left.chain, left.slack);
+    }
 
-pub returns-in-Refused : goal.returns-in-Refused
-returns-in-Refused c = let a = c.args in
-    let q = planned a.processors a.tasks a.period.now a.deadline.now a.steps.now a.processor.now a.priority.now a.time.now c.rows_of-rows.ensures c.if-rows-eq0.false in
-    refused a.processors a.tasks a.period.now a.deadline.now a.steps.now a.processor.now a.priority.now a.time.now q (lists_of a.busy.now a.instances.now a.bounds.now a.chains.now a.slack.now) c.room_needed-short.ensures c.if-short-ne0.false _ _ c.row_bounds.ensures _ c.in-Refused.is
+pub returns-clause-outcome : goal.returns-clause-outcome
+returns-clause-outcome g c =
+    let T = g.T.TableView.table c.args.table.now in
+    let plan = c.in_ok-rows.ensures in
+    let none : needed_for c.in_ok-rows.rows T.tasks (lists_in c.args.out.now) ≡ 0 = rw c.tasks.ensures at c.in_ok-check_room.ensures.room in
+    let stay = c.fill_rows.ensures.stay in
+    let says : c.from.result ≡ cond (accepted T (bounds_of c.fill_rows.new.self.bounds.now)) 1 0 = c.from.ensures ∙ one_or_zero _ ∙ rw c.fill_chains.ensures.accepted in
+    (plan.0, none_needed T plan.0 plan.1 (lists_in c.args.out.now) none, rw (c.fill_chains.ensures.lists, stay.0, stay.1) (given T plan.0 plan.1 (lists_in c.args.out.now) none _ _ c.fill_rows.ensures.outcome c.in_ok-fill_rows.was refl refl says))

@@ -5,17 +5,17 @@ use Rattle.plan.specs.Printed.{refusal_text}
 use Rattle.plan.specs.PrintedLaws.{bytes_printed, refusal_printed, refusal_few, counts}
 use Rattle.plan.proofs.print.Goals as goal
 
-pub returns-in-Bytes : goal.returns-in-Bytes
-returns-in-Bytes c =
+pub returns-in-Ok : goal.returns-in-Ok
+returns-in-Ok c =
     let a = c.args in
-    let told = bytes_printed (omega arith) c.report_file.ensures c.in-Bytes.is in
+    let told = bytes_printed (omega arith) c.report_file.ensures c.in-Ok.is in
     (counts _ told.0, told.1)
 
-pub returns-in-Refused : goal.returns-in-Refused
-returns-in-Refused c =
+pub returns-in-Err : goal.returns-in-Err
+returns-in-Err c =
     let a = c.args in
     let left = c.report_file.new.out in
-    let text = refusal_text c.in-Refused.refusal in
-    let told = refusal_printed (omega arith) c.report_file.ensures c.in-Refused.is in
-    let there = front_is text left c.print_refusal.ensures (omega (arith, refusal_few c.in-Refused.refusal)) in
+    let text = refusal_text c.in-Err.refusal in
+    let told = refusal_printed (omega arith) c.report_file.ensures c.in-Err.is in
+    let there = front_is text left c.print_refusal.ensures (omega (arith, refusal_few c.in-Err.refusal)) in
     (counts _ there.1, rw there.0 told)

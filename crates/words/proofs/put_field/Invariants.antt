@@ -1,11 +1,10 @@
 -- The loop sets one word of the field after the other.
-use Rattle.std.proofs.Common.{◌≤◌, ◌-◌, ◌≡◌, length}
+use Rattle.std.proofs.Common.{◌≡◌, length}
 use Rattle.words.specs.Words.{with_words}
 use Rattle.words.proofs.put_field.Given as goal
 
 abbrev pub invariant-loop-i : goal.invariant-loop-i
-invariant-loop-i l =
-    (l.i ≤ l.count) × (length l.list ≡ length l.initial.list) × (l.list ≡ with_words l.initial.list l.from l.step l.i l.values)
-
-abbrev pub decreases-loop-i : goal.decreases-loop-i
-decreases-loop-i l = l.count - l.i
+invariant-loop-i l = record {
+  size : length l.list ≡ length l.initial.list;
+  words : l.list ≡ with_words l.initial.list l.from l.step l.i l.values;
+}

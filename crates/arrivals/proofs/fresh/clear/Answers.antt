@@ -1,20 +1,30 @@
-use Rattle.std.proofs.Common.{◌≡◌, ◌∙◌, arith}
-use Rattle.guards.specs.LentLaws.{cleared_none, cleared_more}
+use Rattle.std.proofs.Common.{arith}
+use Rattle.guards.specs.Lent.{Long}
+use Rattle.guards.specs.Machine.{start}
+use Rattle.guards.specs.Moment.{state_with}
+use Rattle.arrivals.proofs.RowLemmas.{cleared_long}
 use Rattle.arrivals.proofs.fresh.clear.Goals as goal
 
-pub loop-row-init : goal.loop-row-init
-loop-row-init c = (omega arith, cleared_none _, cleared_none _, cleared_none _, cleared_none _)
+pub set_released-requires : goal.set_released-requires
+set_released-requires g c = let σ = g.S.StateView.state c.args.state.now in
+    let l = c.loop-row in
+    let z : Long c.args.count (state_with l.row start σ) = cleared_long σ l.row c.args.count (omega arith) c.requires in
+    rw l.invariant.state (omega (arith, z.released))
 
-pub loop-row-preserved : goal.loop-row-preserved
-loop-row-preserved c = let l = c.loop-row in (
-  omega arith,
-  cleared_more l.row c.args.released.now l.invariant.1 (omega arith),
-  cleared_more l.row c.args.completed.now l.invariant.2 (omega arith),
-  cleared_more l.row c.args.used.now l.invariant.3 (omega arith),
-  cleared_more l.row c.args.guard.now l.invariant.4 (omega arith),
-)
+pub set_completed-requires : goal.set_completed-requires
+set_completed-requires g c = let σ = g.S.StateView.state c.args.state.now in
+    let l = c.loop-row in
+    let z : Long c.args.count (state_with l.row start σ) = cleared_long σ l.row c.args.count (omega arith) c.requires in
+    rw (c.set_released.ensures.state, l.invariant.state) (omega (arith, z.completed))
 
-pub returns : goal.returns
-returns c = let l = c.loop-row in
-    let e : l.row ≡ c.args.count = omega arith in
-    (l.invariant.1.list ∙ rw e, l.invariant.2.list ∙ rw e, l.invariant.3.list ∙ rw e, l.invariant.4.list ∙ rw e)
+pub set_used-requires : goal.set_used-requires
+set_used-requires g c = let σ = g.S.StateView.state c.args.state.now in
+    let l = c.loop-row in
+    let z : Long c.args.count (state_with l.row start σ) = cleared_long σ l.row c.args.count (omega arith) c.requires in
+    rw (c.set_completed.ensures.state, c.set_released.ensures.state, l.invariant.state) (omega (arith, z.used))
+
+pub set_guard-requires : goal.set_guard-requires
+set_guard-requires g c = let σ = g.S.StateView.state c.args.state.now in
+    let l = c.loop-row in
+    let z : Long c.args.count (state_with l.row start σ) = cleared_long σ l.row c.args.count (omega arith) c.requires in
+    rw (c.set_used.ensures.state, c.set_completed.ensures.state, c.set_released.ensures.state, l.invariant.state) (omega (arith, z.guard))

@@ -1,11 +1,11 @@
-use Rattle.std.proofs.Common.{◌≤◌, ◌-◌}
-use Rattle.guards.specs.LentLaws.{Cleared}
+use Rattle.std.proofs.Common.{◌≡◌}
+use Rattle.guards.specs.Machine.{start}
+use Rattle.guards.specs.Moment.{state_with}
 use Rattle.arrivals.proofs.fresh.clear.Given as goal
 
+-- the rows up to here are 0
 abbrev pub invariant-loop-row : goal.invariant-loop-row
-invariant-loop-row l =
-    (l.row ≤ l.count)
-    × Cleared l.row l.initial.released l.released × Cleared l.row l.initial.completed l.completed × Cleared l.row l.initial.used l.used × Cleared l.row l.initial.guard l.guard
-
-abbrev pub decreases-loop-row : goal.decreases-loop-row
-decreases-loop-row l = l.count - l.row
+invariant-loop-row g l = record {
+  state : g.S.StateView.state l.state ≡ state_with l.row start (g.S.StateView.state l.fn.state);
+  same_place : g.S.ArrivalState.names l.state ≡ g.S.ArrivalState.names l.fn.state;
+}

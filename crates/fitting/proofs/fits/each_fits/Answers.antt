@@ -1,41 +1,55 @@
-use Rattle.std.proofs.Common.{add-one, [], ◌≡◌, sym, ◌∙◌, ap, ℕ, arith}
-use Rattle.guards.specs.PartsLaws.{row_fits_parts}
-use Rattle.guards.specs.Lent.{state_of}
-use Rattle.guards.specs.Rows.{plan_from}
-use Rattle.guards.specs.Fits.{row_fits}
-use Rattle.guards.specs.Moment.{moment_of}
-use Rattle.facts.specs.TestsLaws.{all_none, all_more, all_fails}
-use Rattle.facts.specs.Tests.{all}
+use Rattle.std.proofs.Common.{◌≡◌, true, false, add-one, sym}
+use Rattle.facts.specs.TestsLaws.{all_none}
+use Rattle.guards.specs.InRows.{rows_of}
+use Rattle.fitting.proofs.RowTests.{counts_of, guard_of, releases_of, counts_wrong, guard_wrong, releases_wrong, row_right}
 use Rattle.fitting.proofs.fits.each_fits.Goals as goal
 
 pub loop-row-init : goal.loop-row-init
-loop-row-init c = (omega arith, c.first_of-before.ensures, all_none _)
+loop-row-init g c = record { fits = all_none _; before = c.completed-before.ensures }
 
 pub returns-then-not-counts_fit : goal.returns-then-not-counts_fit
-unfolding moment_of
-returns-then-not-counts_fit c = let l = c.loop-row in
-    sym (all_fails c.args.count (row_fits ((plan_from c.args.count c.args.periods.now c.args.firsts.now [] [] c.args.time.now)) ((moment_of (state_of c.args.clock c.args.released.now c.args.completed.now c.args.used.now c.args.guard.now)))) l.row (omega arith)
-    (row_fits_parts ((plan_from c.args.count c.args.periods.now c.args.firsts.now [] [] c.args.time.now)) ((moment_of (state_of c.args.clock c.args.released.now c.args.completed.now c.args.used.now c.args.guard.now))) l.row ∙ rw (sym c.counts_fit.ensures ∙ c.if-not-counts_fit.true)))
+returns-then-not-counts_fit g c =
+    let R = rows_of c.args.rows.now in
+    let time = (g.T.TableView.table c.args.table.now).time in
+    let σ = g.S.StateView.state c.args.state.now in
+    let r = c.loop-row.row in
+    let e : counts_of time σ r ≡ false = cc in
+    counts_wrong R time σ r c.loop-row-test.true e
 
-pub returns-then-not-chain_fits : goal.returns-then-not-chain_fits
-unfolding moment_of
-returns-then-not-chain_fits c = let l = c.loop-row in
-    sym (all_fails c.args.count (row_fits ((plan_from c.args.count c.args.periods.now c.args.firsts.now [] [] c.args.time.now)) ((moment_of (state_of c.args.clock c.args.released.now c.args.completed.now c.args.used.now c.args.guard.now)))) l.row (omega arith)
-    (row_fits_parts ((plan_from c.args.count c.args.periods.now c.args.firsts.now [] [] c.args.time.now)) ((moment_of (state_of c.args.clock c.args.released.now c.args.completed.now c.args.used.now c.args.guard.now))) l.row
-    ∙ rw (sym c.counts_fit.ensures ∙ c.if-not-counts_fit.false, ← l.invariant.1, sym c.chain_fits.ensures ∙ c.if-not-chain_fits.true)))
+pub returns-then-not-guard_fits : goal.returns-then-not-guard_fits
+returns-then-not-guard_fits g c =
+    let R = rows_of c.args.rows.now in
+    let time = (g.T.TableView.table c.args.table.now).time in
+    let σ = g.S.StateView.state c.args.state.now in
+    let r = c.loop-row.row in
+    let e : counts_of time σ r ≡ true = cc in
+    let f : guard_of R σ r ≡ false = cc in
+    guard_wrong R time σ r e c.loop-row-test.true f
+
+pub returns-then-not-releases_fit : goal.returns-then-not-releases_fit
+returns-then-not-releases_fit g c =
+    let R = rows_of c.args.rows.now in
+    let time = (g.T.TableView.table c.args.table.now).time in
+    let σ = g.S.StateView.state c.args.state.now in
+    let r = c.loop-row.row in
+    let e : counts_of time σ r ≡ true = cc in
+    let f : guard_of R σ r ≡ true = cc in
+    let h : releases_of R σ r ≡ false = cc (c.releases_fit.ensures, c.loop-row.invariant.before) in
+    releases_wrong R time σ r e c.loop-row-test.true f h
 
 pub loop-row-preserved : goal.loop-row-preserved
-unfolding moment_of
-loop-row-preserved c = let l = c.loop-row in (
-  omega arith,
-  rw add-one,
-  all_more l.row (row_fits ((plan_from c.args.count c.args.periods.now c.args.firsts.now [] [] c.args.time.now)) ((moment_of (state_of c.args.clock c.args.released.now c.args.completed.now c.args.used.now c.args.guard.now)))) l.invariant.2
-      (row_fits_parts ((plan_from c.args.count c.args.periods.now c.args.firsts.now [] [] c.args.time.now)) ((moment_of (state_of c.args.clock c.args.released.now c.args.completed.now c.args.used.now c.args.guard.now))) l.row
-      ∙ rw (sym c.counts_fit.ensures ∙ c.if-not-counts_fit.false, ← l.invariant.1, sym c.chain_fits.ensures ∙ c.if-not-chain_fits.false)),
-)
+loop-row-preserved g c =
+    let R = rows_of c.args.rows.now in
+    let time = (g.T.TableView.table c.args.table.now).time in
+    let σ = g.S.StateView.state c.args.state.now in
+    let r = c.loop-row.row in
+    let e : counts_of time σ r ≡ true = cc in
+    let f : guard_of R σ r ≡ true = cc in
+    let h : releases_of R σ r ≡ true = cc (c.releases_fit.ensures, c.loop-row.invariant.before) in
+    record {
+      fits = row_right R time σ r e c.loop-row.invariant.fits f h;
+      before = rw (add-one r) c.completed-completed.ensures;
+    }
 
-pub returns : goal.returns
-unfolding moment_of
-returns c = let l = c.loop-row in
-    let e : l.row ≡ c.args.count = omega arith in
-    sym (ap (λ (n : ℕ). all n (row_fits ((plan_from c.args.count c.args.periods.now c.args.firsts.now [] [] c.args.time.now)) ((moment_of (state_of c.args.clock c.args.released.now c.args.completed.now c.args.used.now c.args.guard.now))))) (sym e) ∙ l.invariant.2)
+pub returns-then-rows-eq0 : goal.returns-then-rows-eq0
+returns-then-rows-eq0 g c = rw c.if-rows-eq0.true (sym (all_none _))

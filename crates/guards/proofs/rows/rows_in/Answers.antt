@@ -1,8 +1,17 @@
+use Rattle.std.specs.Prelude.{ℕ, ◌≡◌, refl, Result, Ok, Err}
+use Rattle.std.specs.Result.{result_unwrap_or}
 use Rattle.std.proofs.Common.{◌∙◌, ap}
-use Rattle.guards.specs.Rows.{count_of, rows_in}
+use Rattle.table.specs.declared.refusal.Refusal.{Refusal}
 use Rattle.planned.specs.View.{Viewed}
+use Rattle.guards.specs.Rows.{count_of, rows_in}
 use Rattle.guards.proofs.rows.rows_in.Goals as goal
+
+counted : (r : Result ℕ Refusal) → result_unwrap_or r 0 ≡ count_of r
+counted (Ok n) = refl
+counted (Err refusal) = refl
 
 pub returns : goal.returns
 unfolding rows_in
-returns c = λ i. record { count = (c.count_of.ensures ∙ ap (λ (w : Viewed). count_of w.answer) c.view_rows-view.ensures) i; period = (c.view_rows-view.ensures i).period; first = (c.view_rows-view.ensures i).first }
+returns g c =
+    let e = c.view_rows.ensures in
+    λ i. record { count = (c.unwrap_or.ensures ∙ counted c.view_rows.result ∙ ap (λ (w : Viewed). count_of w.answer) e) i; period = (e i).period; first = (e i).first }

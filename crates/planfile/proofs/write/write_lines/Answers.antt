@@ -1,37 +1,32 @@
 -- `planfile::write::write_lines` meets its contract: at each line, the text so far and the lines that are left are the whole file.
-use Rattle.std.proofs.Common.{◌≡◌, sym, ◌∙◌, true, arith}
-use Rattle.table.specs.Table.{table_of, is_plan}
+use Rattle.std.proofs.Common.{refl, arith}
 use Rattle.planfile.specs.WriterLaws.{wrote_start, wrote_same, wrote_few, wrote_slots, wrote_value, wrote_left, wrote_line, wrote_next, wrote_end}
-use Rattle.planfile.proofs.write.write_lines.Goals.{Start}
 use Rattle.planfile.proofs.write.write_lines.Goals as goal
 
-plan : (c : Start) → is_plan ((table_of c.args.processors c.args.tasks c.args.period.now c.args.deadline.now c.args.steps.now c.args.processor.now c.args.priority.now c.args.time.now)) ≡ true
-plan c = c.requires.0
-
 pub loop-due-init : goal.loop-due-init
-loop-due-init c = wrote_same c.first-due.ensures (wrote_start _ _ c.requires.1)
+loop-due-init g c = wrote_same c.first-due.ensures (wrote_start _ _ c.requires.1)
 
 pub value_due-value-requires : goal.value_due-value-requires
-value_due-value-requires c = (wrote_few (plan (goal.at.value_due-value-requires c).Start) c.loop-due.invariant, wrote_slots (plan (goal.at.value_due-value-requires c).Start) c.loop-due.invariant)
+value_due-value-requires g c =
+    let s = c.loop-due.invariant in
+    (wrote_few c.requires.0 s, wrote_slots c.requires.0 s)
 
 pub advance-due-requires : goal.advance-due-requires
-advance-due-requires c =
+advance-due-requires g c =
     let s = c.loop-due.invariant in
-    (wrote_few (plan (goal.at.advance-due-requires c).Start) s, wrote_value (plan (goal.at.advance-due-requires c).Start) s c.loop-due-test.true c.value_due-value.ensures)
+    (wrote_few c.requires.0 s, wrote_value c.requires.0 s c.loop-due-test.true c.value_due-value.ensures, refl)
 
 pub loop-due-smaller : goal.loop-due-smaller
-loop-due-smaller c =
+loop-due-smaller g c =
     let s = c.loop-due.invariant in
     let due = c.loop-due-test.true in
-    rw c.advance-due.ensures (omega (arith, wrote_left (plan (goal.at.loop-due-smaller c).Start) s due, wrote_line (plan (goal.at.loop-due-smaller c).Start) s c.value_due-value.result due))
+    rw c.advance-due.ensures
+    (omega (arith, wrote_left c.requires.0 s due, wrote_line c.requires.0 s c.value_due-value.result due))
 
 pub loop-due-preserved : goal.loop-due-preserved
-loop-due-preserved c =
+loop-due-preserved g c =
     wrote_same c.advance-due.ensures
-    (wrote_next (plan (goal.at.loop-due-preserved c).Start) c.loop-due.invariant c.loop-due-test.true c.value_due-value.ensures c.write_line-end.ensures)
-
-pub shape_of-text : goal.shape_of-text
-shape_of-text c = (wrote_end (plan (goal.at.shape_of-text c).Start) c.loop-due.invariant c.loop-due-test.false).size ∙ sym c.requires.1
+    (wrote_next c.requires.0 c.loop-due.invariant c.loop-due-test.true c.value_due-value.ensures c.write_line-end.ensures)
 
 pub returns : goal.returns
-returns c = wrote_end (plan (goal.at.returns c).Start) c.loop-due.invariant c.loop-due-test.false
+returns g c = wrote_end c.requires.0 c.loop-due.invariant c.loop-due-test.false

@@ -4,12 +4,9 @@ use Rattle.records.specs.RecordsLaws.{rows_none, rows_more}
 use Rattle.records.proofs.apart.with_rows.Goals as goal
 
 pub loop-i-init : goal.loop-i-init
-loop-i-init c = record { taken = rows_none c.args.columns c.args.rows.now; most = omega arith }
+loop-i-init c = rows_none c.args.columns c.args.rows.now
 
 pub loop-i-preserved : goal.loop-i-preserved
 loop-i-preserved c =
     let z : Sizes c.args.columns = record { period = search rules; deadline = search rules; steps = search rules; processor = search rules; priority = search rules; time = search rules } in
-    record {
-      taken = rw (c.with_row-next.ensures, c.loop-i.invariant.taken, c.row_at-row.ensures) (rows_more c.args.columns c.args.rows.now c.loop-i.i z (omega arith));
-      most = omega arith;
-    }
+    rw (c.with_row-next.ensures, c.loop-i.invariant, c.row_at.ensures) (rows_more c.args.columns c.args.rows.now c.loop-i.i z (omega arith))

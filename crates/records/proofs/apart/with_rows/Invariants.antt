@@ -1,9 +1,6 @@
-use Rattle.std.proofs.Common.{◌-◌, ◌≡◌, ◌≤◌}
+use Rattle.std.proofs.Common.{◌≡◌}
 use Rattle.records.specs.Records.{first_rows}
 use Rattle.records.proofs.apart.with_rows.Given as goal
 
 abbrev pub invariant-loop-i : goal.invariant-loop-i
-invariant-loop-i l = record { taken : l.next ≡ first_rows l.fn.columns l.rows l.i; most : l.i ≤ l.count }
-
-abbrev pub decreases-loop-i : goal.decreases-loop-i
-decreases-loop-i l = l.count - l.i
+invariant-loop-i l = l.next ≡ first_rows l.fn.columns l.rows l.i

@@ -1,16 +1,17 @@
 -- `report::delivery::deliver_report` meets its contract: what is delivered is the text that was written apart.
-use Rattle.std.proofs.Common.{sym, ◌∙◌, ap, List, ℕ, length-take-le}
-use Rattle.report.specs.Reporting.{delivered}
+use Rattle.std.proofs.Common.{◌∙◌, ap, List, ℕ, arith}
+use Rattle.text.specs.TextLaws.{placed}
+use Rattle.report.specs.Pages.{added}
 use Rattle.report.specs.ReportLaws.{front_is}
+use Rattle.report.specs.Reporting.{delivered}
 use Rattle.report.proofs.delivery.deliver_report.Goals as goal
 
-pub slice_bounds-text-end : goal.slice_bounds-text-end
-slice_bounds-text-end c = (front_is _ _ c.append_report-end.ensures c.requires.accepted_len_bound).1
-
-pub slice_bounds-deliver-end : goal.slice_bounds-deliver-end
-slice_bounds-deliver-end c = sym (length-take-le _ _ (front_is _ _ c.append_report-end.ensures c.requires.accepted_len_bound).1)
+pub shared_ref_as_front-deliver : goal.shared_ref_as_front-deliver
+unfolding added
+shared_ref_as_front-deliver g c = omega (arith, (placed _ _ _ c.append_report.ensures (omega (arith, c.requires.few))).end, c.requires.few)
 
 pub returns : goal.returns
-returns c =
+unfolding added
+returns g c =
     c.deliver.ensures
-    ∙ ap (λ (t : List ℕ). delivered t c.args.out.now) (front_is _ _ c.append_report-end.ensures c.requires.accepted_len_bound).0
+    ∙ ap (λ (t : List ℕ). delivered t c.args.out.now) (front_is _ _ c.append_report.ensures c.requires.few).0

@@ -1,33 +1,30 @@
-use Rattle.std.proofs.Common.{lt-ltb, le-ltb, [], ◌≡◌, refl, ◌∙◌, arith}
-use Rattle.ticks.specs.BusyLaws.{busy_below, busy_more, busy_same}
-use Rattle.guards.specs.Machine.{idle}
-use Rattle.guards.specs.Lent.{state_of}
-use Rattle.guards.specs.Running.{is_open}
-use Rattle.guards.specs.Moment.{moment_of}
-use Rattle.table.specs.Table.{at}
+use Rattle.std.proofs.Common.{lt-ltb, le-ltb, ◌≡◌, refl, ◌∙◌, arith}
 use Rattle.facts.specs.Filled.{tab}
 use Rattle.facts.specs.Tests.{all}
-use Rattle.ticks.proofs.release.busy_processors.Goals.{then-completed-row, else-completed-row}
+use Rattle.table.specs.Table.{at}
+use Rattle.guards.specs.Machine.{idle}
+use Rattle.guards.specs.Moment.{moment_of}
+use Rattle.guards.specs.Running.{is_open}
+use Rattle.ticks.specs.BusyLaws.{busy_below, busy_more, busy_same}
+use Rattle.ticks.proofs.release.busy_processors.Goals.{then-completed-released, else-completed-released}
 use Rattle.ticks.proofs.release.busy_processors.Goals as goal
 
 pub loop-row-init : goal.loop-row-init
 unfolding tab busy_below all
-loop-row-init c = (omega arith, refl)
-
-pub bounds-busy-processor : goal.bounds-busy-processor
-bounds-busy-processor c = omega (arith, c.requires.0.processor_most c.loop-row.row (omega arith))
+loop-row-init g c = refl
 
 pub loop-row-preserved : goal.loop-row-preserved
 unfolding is_open moment_of
-loop-row-preserved c = let l = c.loop-row in
+loop-row-preserved g c =
+    let T = g.T.TableView.table c.args.table.now in
+    let σ = g.S.StateView.state c.args.state.now in
+    let l = c.loop-row in
     let p = c.requires.0.processor_most l.row (omega arith) in
-    elim c.if-completed-row.branch [
-      | then-completed-row w ↦ (omega arith, w.busy-is ∙ rw l.invariant.1 (busy_more (at c.args.processor.now) (is_open (moment_of (state_of 0 c.args.released.now c.args.completed.now [] []))) l.row 17 (lt-ltb _ _ w.if-completed-row.true) (omega arith)))
-      | else-completed-row w ↦ (omega arith, w.busy-is ∙ l.invariant.1 ∙ busy_same (at c.args.processor.now) (is_open (moment_of (state_of 0 c.args.released.now c.args.completed.now [] []))) l.row 17 (le-ltb _ _ w.if-completed-row.false))
+    elim c.if-completed-released.branch [
+      | then-completed-released w ↦ w.busy-is ∙ rw (l.invariant, w.processor.ensures) (busy_more (at T.processor) (is_open (moment_of σ)) l.row 17 (lt-ltb _ _ (rw (c.completed.ensures, c.released.ensures) at w.if-completed-released.true)) (omega arith))
+      | else-completed-released w ↦ w.busy-is ∙ l.invariant ∙ busy_same (at T.processor) (is_open (moment_of σ)) l.row 17 (le-ltb _ _ (rw (c.completed.ensures, c.released.ensures) at w.if-completed-released.false))
     ]
 
 pub returns : goal.returns
 unfolding idle busy_below is_open moment_of
-returns c = let l = c.loop-row in
-    let e : l.row ≡ c.args.rows = omega arith in
-    λ clock used guard. l.invariant.1 ∙ rw e
+returns g c = let e : c.loop-row.row ≡ c.args.rows = omega arith in c.loop-row.invariant ∙ rw e

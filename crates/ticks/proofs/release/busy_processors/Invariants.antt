@@ -1,15 +1,12 @@
-use Rattle.std.proofs.Common.{[], ◌≡◌, ◌≤◌, ◌-◌}
-use Rattle.ticks.specs.BusyLaws.{busy_below}
-use Rattle.guards.specs.Lent.{state_of}
-use Rattle.guards.specs.Running.{is_open}
-use Rattle.guards.specs.Moment.{moment_of}
-use Rattle.table.specs.Table.{at}
+use Rattle.std.proofs.Common.{◌≡◌}
 use Rattle.facts.specs.Filled.{tab}
+use Rattle.table.specs.Table.{at}
+use Rattle.guards.specs.Moment.{moment_of}
+use Rattle.guards.specs.Running.{is_open}
+use Rattle.ticks.specs.BusyLaws.{busy_below}
 use Rattle.ticks.proofs.release.busy_processors.Given as goal
 
+-- the processors of the rows so far
 abbrev pub invariant-loop-row : goal.invariant-loop-row
-invariant-loop-row l =
-    (l.row ≤ l.rows) × (l.busy ≡ tab (busy_below (at l.processor) (is_open (moment_of (state_of 0 l.released l.completed [] []))) l.row) 17)
-
-abbrev pub decreases-loop-row : goal.decreases-loop-row
-decreases-loop-row l = l.rows - l.row
+invariant-loop-row g l =
+    l.busy ≡ tab (busy_below (at (g.T.TableView.table l.table).processor) (is_open (moment_of (g.S.StateView.state l.state))) l.row) 17

@@ -1,26 +1,32 @@
-use Rattle.std.proofs.Common.{length-set, ◌≡◌, refl, ◌∙◌, arith}
-use Rattle.ticks.specs.TurnLaws.{made_read, made_store}
-use Rattle.ticks.specs.Steps.{guard_in, first_in, idle_in}
-use Rattle.facts.specs.FilledLaws.{filled_none}
+use Rattle.std.proofs.Common.{◌+◌, refl, ◌∙◌, arith}
+use Rattle.guards.specs.Moment.{moment_of}
+use Rattle.ticks.specs.Steps.{opened_where, first_in, idle_in}
+use Rattle.ticks.proofs.RowLemmas.{none_made, made_long, row_opened}
 use Rattle.ticks.proofs.release.open_guards.Goals as goal
 
 pub loop-row-init : goal.loop-row-init
-loop-row-init c = (omega arith, filled_none _ _, refl)
-
-pub bounds-busy-on : goal.bounds-busy-on
-bounds-busy-on c = omega (arith, c.requires.0.processor_most c.loop-row.row (omega arith))
+unfolding opened_where moment_of
+loop-row-init g c =
+    let T = g.T.TableView.table c.args.table.now in
+    let σ = g.S.StateView.state c.args.state.now in
+    record {
+      state = none_made (opened_where (first_in c.args.rows.now.firsts.now) (idle_in T.processor c.args.busy.now) (moment_of σ)) σ refl;
+      long = c.requires.long;
+      same_place = refl;
+    }
 
 pub loop-row-preserved : goal.loop-row-preserved
-loop-row-preserved c = let l = c.loop-row in (
-  omega arith,
-  made_store ((guard_in (first_in c.args.firsts.now) (idle_in c.args.processor.now c.args.busy.now) c.args.clock c.args.guard.now)) l.row c.args.guard.now l.invariant.1 (omega arith) (c.opened_guard.ensures ∙ rw (made_read ((guard_in (first_in c.args.firsts.now) (idle_in c.args.processor.now c.args.busy.now) c.args.clock c.args.guard.now)) l.row c.args.guard.now l.invariant.1)),
-  simp length-set l.invariant.2,
-)
-
-pub shape_of-guard : goal.shape_of-guard
-shape_of-guard c = c.loop-row.invariant.2
-
-pub returns : goal.returns
-returns c = let l = c.loop-row in
-    let e : l.row ≡ c.args.rows = omega arith in
-    l.invariant.1 ∙ rw e
+loop-row-preserved g c =
+    let T = g.T.TableView.table c.args.table.now in
+    let σ = g.S.StateView.state c.args.state.now in
+    let n = c.loop-row.row in
+    let i = c.loop-row.invariant in
+    let e =
+    c.set_guard.ensures.state
+    ∙ row_opened σ _ n c.args.rows.now.count (omega arith) c.requires.long (first_in c.args.rows.now.firsts.now) (idle_in T.processor c.args.busy.now) _ i.state
+    (c.opened_guard.ensures ∙ rw (c.guard-guard.ensures, c.clock-clock.ensures, c.processor-on.ensures) refl) in
+    record {
+      state = e;
+      long = made_long _ σ _ (n + 1) c.args.rows.now.count (omega arith) c.requires.long e;
+      same_place = c.set_guard.ensures.same_place ∙ i.same_place;
+    }

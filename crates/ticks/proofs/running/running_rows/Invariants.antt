@@ -1,14 +1,13 @@
-use Rattle.std.proofs.Common.{[], ◌≡◌, ◌≤◌, ◌-◌}
-use Rattle.guards.specs.Rows.{plan_from}
-use Rattle.guards.specs.Lent.{state_of}
-use Rattle.guards.specs.Running.{is_open, best}
-use Rattle.guards.specs.Moment.{moment_of}
+use Rattle.std.proofs.Common.{◌≡◌, []}
 use Rattle.facts.specs.Filled.{tab}
+use Rattle.guards.specs.Moment.{moment_of}
+use Rattle.guards.specs.Rows.{plan_from}
+use Rattle.guards.specs.Running.{best, is_open}
+use Rattle.ticks.specs.Numbers.{numbers}
 use Rattle.ticks.proofs.running.running_rows.Given as goal
 
+-- the best of the rows so far
 abbrev pub invariant-loop-row : goal.invariant-loop-row
-invariant-loop-row l =
-    (l.row ≤ l.rows) × (l.found ≡ tab (λ x. best (plan_from l.rows [] [] l.processor l.priority []) (is_open (moment_of (state_of 0 l.released l.completed [] []))) x l.row) 17)
-
-abbrev pub decreases-loop-row : goal.decreases-loop-row
-decreases-loop-row l = l.rows - l.row
+invariant-loop-row g l =
+    let T = g.T.TableView.table l.table in
+    numbers l.found ≡ tab (λ x. best (plan_from l.rows [] [] T.processor T.priority []) (is_open (moment_of (g.S.StateView.state l.state))) x l.row) 17

@@ -1,47 +1,80 @@
-use Rattle.std.proofs.Common.{suc, arith}
+use Rattle.std.proofs.Common.{◌≡◌, suc, Err, sym, ◌∙◌, arith}
+use Rattle.guards.specs.Moment.{moment_of}
+use Rattle.guards.specs.Rows.{plan_from}
+use Rattle.guards.specs.InRows.{rows_of}
+use Rattle.ticks.specs.Numbers.{numbers}
+use Rattle.ticks.specs.SameLaws.{with_long}
+use Rattle.ticks.specs.Steps.{stepped, readied}
+use Rattle.ticks.specs.StepsLaws.{steps_made, bytes_made, releasing}
 use Rattle.ticks.specs.TickingLaws.{list_long, timely, stepping, clock_end}
 use Rattle.ticks.proofs.TickedLaws.{list_wrong, list_up, list_made}
-use Rattle.guards.specs.Moment.{moment_of}
-use Rattle.guards.specs.Lent.{state_of}
-use Rattle.guards.specs.Rows.{plan_from}
 use Rattle.ticks.proofs.tick.tick_done.Goals as goal
 
-pub returns-then-clock-eq-LAST_CLOCK : goal.returns-then-clock-eq-LAST_CLOCK
-returns-then-clock-eq-LAST_CLOCK c = clock_end c.args.processors ((plan_from c.args.count c.args.periods.now c.args.firsts.now c.args.processor.now c.args.priority.now c.args.time.now)) ((state_of c.args.clock c.args.released.now c.args.completed.now c.args.used.now c.args.guard.now)) c.args.done.now c.args.out.now c.refused.ensures c.if-clock-eq-LAST_CLOCK.true
+pub returns-then-clock-eq-LAST_CLOCK-clause-outcome : goal.returns-then-clock-eq-LAST_CLOCK-clause-outcome
+returns-then-clock-eq-LAST_CLOCK-clause-outcome g c =
+    let T = g.T.TableView.table c.args.table.now in
+    let r = c.args.rows.now in
+    clock_end T.processors (plan_from r.count r.periods.now r.firsts.now T.processor T.priority T.time) (g.S.StateView.state c.args.state.now) c.args.done.now c.args.released.now (sym c.clock-clock.ensures ∙ c.if-clock-eq-LAST_CLOCK.true)
 
-pub running_rows-running-requires : goal.running_rows-running-requires
-running_rows-running-requires c = let r = c.requires.ready in (
-  record { few = r.listed.few; processor_long = r.listed.processor_long; processor_most = λ i l. omega (arith, r.listed.processor_most i l, r.listed.processors_most) },
-  r.listed.priority_long,
-  r.long.released,
-  r.long.completed,
-)
+pub returns-in_err-check_bytes-clause-outcome : goal.returns-in_err-check_bytes-clause-outcome
+returns-in_err-check_bytes-clause-outcome g c =
+    let T = g.T.TableView.table c.args.table.now in
+    let passed : c.from_residual.result ≡ Err c.in_err-check_bytes.field-0.0 = grind arith in
+    rw passed (list_wrong (rows_of c.args.rows.now) T.processors T.processor T.priority T.time (g.S.StateView.state c.args.state.now) c.running_rows-running.ensures c.args.done.now c.args.released.now c.requires (λ e. c.if-clock-eq-LAST_CLOCK.false (c.clock-clock.ensures ∙ e)) (sym c.check_bytes.ensures ∙ c.in_err-check_bytes.was))
 
-pub returns-then-wrong-processors : goal.returns-then-wrong-processors
-returns-then-wrong-processors c = list_wrong ((record { count = c.args.count; period = c.args.periods.now; first = c.args.firsts.now })) c.args.processors c.args.processor.now c.args.priority.now c.args.time.now ((state_of c.args.clock c.args.released.now c.args.completed.now c.args.used.now c.args.guard.now)) (c.running_rows-running.ensures c.args.clock c.args.used.now c.args.guard.now) c.requires.ready c.args.done.now c.args.out.now c.if-clock-eq-LAST_CLOCK.false c.lowest_wrong-wrong.ensures c.refused-then-wrong-processors.ensures c.if-wrong-processors.true
-
-pub lowest_up-up-requires : goal.lowest_up-up-requires
-lowest_up-up-requires c = let r = c.requires.ready in
-    let er = c.running_rows-running.ensures c.args.clock c.args.used.now c.args.guard.now in (
-      record { done_long = omega (arith, c.requires.done_long); running_long = omega (arith, r.listed.processors_most, list_long ((record { count = c.args.count; period = c.args.periods.now; first = c.args.firsts.now })) c.args.processor.now c.args.priority.now c.args.time.now ((state_of c.args.clock c.args.released.now c.args.completed.now c.args.used.now c.args.guard.now)) er) },
-      λ i l. timely ((record { count = c.args.count; period = c.args.periods.now; first = c.args.firsts.now })) c.args.processor.now c.args.priority.now c.args.time.now ((state_of c.args.clock c.args.released.now c.args.completed.now c.args.used.now c.args.guard.now)) er r (suc i) (omega (arith, r.listed.processors_most)),
+pub check_ends-requires : goal.check_ends-requires
+check_ends-requires g c =
+    let T = g.T.TableView.table c.args.table.now in
+    let σ = g.S.StateView.state c.args.state.now in
+    let r = c.requires.ready in
+    let e = c.running_rows-running.ensures in (
+      record { done_long = omega arith; running_long = omega (arith, c.requires.done_long, r.listed.processors_most, list_long (rows_of c.args.rows.now) T.processor T.priority T.time σ e) },
+      λ i l. timely (rows_of c.args.rows.now) T.processor T.priority T.time σ e r (suc i) (omega (arith, c.requires.done_long, r.listed.processors_most)),
     )
 
-pub returns-then-up-processors : goal.returns-then-up-processors
-returns-then-up-processors c = list_up ((record { count = c.args.count; period = c.args.periods.now; first = c.args.firsts.now })) c.args.processors c.args.processor.now c.args.priority.now c.args.time.now ((state_of c.args.clock c.args.released.now c.args.completed.now c.args.used.now c.args.guard.now)) (c.running_rows-running.ensures c.args.clock c.args.used.now c.args.guard.now) c.requires.ready c.args.done.now c.args.out.now c.if-clock-eq-LAST_CLOCK.false c.lowest_wrong-wrong.ensures c.if-wrong-processors.false c.lowest_up-up.ensures c.refused-then-up-processors.ensures c.if-up-processors.true
+pub returns-in_err-check_ends-clause-outcome : goal.returns-in_err-check_ends-clause-outcome
+returns-in_err-check_ends-clause-outcome g c =
+    let T = g.T.TableView.table c.args.table.now in
+    let passed : c.from_residual-in_err-check_ends.result ≡ Err c.in_err-check_ends.field-0.0 = grind arith in
+    rw passed (list_up (rows_of c.args.rows.now) T.processors T.processor T.priority T.time (g.S.StateView.state c.args.state.now) c.running_rows-running.ensures c.args.done.now c.args.released.now c.requires (λ e. c.if-clock-eq-LAST_CLOCK.false (c.clock-clock.ensures ∙ e)) (sym c.check_bytes.ensures ∙ c.in_ok-check_bytes.was) (sym c.check_ends.ensures ∙ c.in_err-check_ends.was))
 
-pub steps-requires : goal.steps-requires
-steps-requires c = let er = c.running_rows-running.ensures c.args.clock c.args.used.now c.args.guard.now in
-    stepping ((record { count = c.args.count; period = c.args.periods.now; first = c.args.firsts.now })) c.args.processor.now c.args.priority.now c.args.time.now ((state_of c.args.clock c.args.released.now c.args.completed.now c.args.used.now c.args.guard.now)) er c.requires.ready c.args.done.now c.args.out.now c.requires c.if-clock-eq-LAST_CLOCK.false
+pub ready-requires-clause-reads : goal.ready-requires-clause-reads
+ready-requires-clause-reads g c =
+    let T = g.T.TableView.table c.args.table.now in
+    (stepping (rows_of c.args.rows.now) T.processor T.priority T.time (g.S.StateView.state c.args.state.now) c.running_rows-running.ensures c.requires.ready c.args.done.now c.args.released.now c.requires (λ e. c.if-clock-eq-LAST_CLOCK.false (c.clock-clock.ensures ∙ e))).working
 
-pub overflow_add-clock : goal.overflow_add-clock
+pub ready-requires-clause-clock_below : goal.ready-requires-clause-clock_below
+ready-requires-clause-clock_below g c =
+    let T = g.T.TableView.table c.args.table.now in
+    (stepping (rows_of c.args.rows.now) T.processor T.priority T.time (g.S.StateView.state c.args.state.now) c.running_rows-running.ensures c.requires.ready c.args.done.now c.args.released.now c.requires (λ e. c.if-clock-eq-LAST_CLOCK.false (c.clock-clock.ensures ∙ e))).clock_below
+
+pub let_go-requires-clause-reads : goal.let_go-requires-clause-reads
+let_go-requires-clause-reads g c =
+    let T = g.T.TableView.table c.args.table.now in
+    let σ = g.S.StateView.state c.args.state.now in
+    releasing (rows_of c.args.rows.now) T.processor (numbers c.running_rows-running.result) c.args.done.now σ c.args.released.now
+    (stepping (rows_of c.args.rows.now) T.processor T.priority T.time σ c.running_rows-running.ensures c.requires.ready c.args.done.now c.args.released.now c.requires (λ e. c.if-clock-eq-LAST_CLOCK.false (c.clock-clock.ensures ∙ e)))
+    c.ready.ensures.state
+
+pub let_go-requires-clause-long : goal.let_go-requires-clause-long
+let_go-requires-clause-long g c =
+    let T = g.T.TableView.table c.args.table.now in
+    let σ = g.S.StateView.state c.args.state.now in
+    rw c.ready.ensures.state (with_long c.args.rows.now.count (readied (rows_of c.args.rows.now) T.processor (numbers c.running_rows-running.result) c.args.done.now σ) σ c.requires.ready.long)
+
+pub overflow_add-result : goal.overflow_add-result
 unfolding moment_of
-overflow_add-clock c = omega (arith, c.requires.ready.bounded.clock)
+overflow_add-result g c = omega (arith, c.requires.ready.bounded.clock, c.clock-clock.ensures)
 
-pub overflow_add-clock-2 : goal.overflow_add-clock-2
-unfolding moment_of
-overflow_add-clock-2 c = omega (arith, c.requires.ready.bounded.clock)
-
-pub returns : goal.returns
-returns c = let made = c.steps.ensures in
-    list_made ((record { count = c.args.count; period = c.args.periods.now; first = c.args.firsts.now })) c.args.processors c.args.processor.now c.args.priority.now c.args.time.now ((state_of c.args.clock c.args.released.now c.args.completed.now c.args.used.now c.args.guard.now)) (c.running_rows-running.ensures c.args.clock c.args.used.now c.args.guard.now) c.requires.ready c.args.done.now c.args.out.now c.if-clock-eq-LAST_CLOCK.false c.lowest_wrong-wrong.ensures c.if-wrong-processors.false c.lowest_up-up.ensures c.taken.ensures c.if-up-processors.false made.0 made.1
+pub returns-clause-outcome : goal.returns-clause-outcome
+unfolding stepped
+returns-clause-outcome g c =
+    let T = g.T.TableView.table c.args.table.now in
+    let σ = g.S.StateView.state c.args.state.now in
+    let R = rows_of c.args.rows.now in
+    let w = readied R T.processor (numbers c.running_rows-running.result) c.args.done.now σ in
+    let z = c.requires.ready.long in
+    rw c.clock-clock.ensures
+    (list_made R T.processors T.processor T.priority T.time σ c.running_rows-running.ensures c.args.done.now c.args.released.now c.requires (λ e. c.if-clock-eq-LAST_CLOCK.false (c.clock-clock.ensures ∙ e)) (sym c.check_bytes.ensures ∙ c.in_ok-check_bytes.was) (sym c.check_ends.ensures ∙ c.in_ok-check_ends.was)
+    (steps_made R T.processor w σ z c.ready.ensures.state c.let_go.ensures.state)
+    (bytes_made R T.processor w σ z c.ready.ensures.state c.args.released.now c.let_go.ensures.bytes))

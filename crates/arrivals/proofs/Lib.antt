@@ -1,0 +1,2 @@
+pub mod CameLemmas
+pub mod RowLemmas

@@ -1,5 +1,0 @@
-use Rattle.busy.specs.ClimbLaws.{zeros_of}
-use Rattle.busy.proofs.level.zeros.Goals as goal
-
-pub returns : goal.returns
-returns c = zeros_of

@@ -1,7 +1,0 @@
-// A table by value, written, bounded and reported.
-
-#![tactic(auto)]
-
-pub mod bounded;
-pub mod reported;
-pub mod written;

@@ -1,0 +1,2 @@
+pub mod GuardTests
+pub mod RowTests
