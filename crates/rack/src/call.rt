@@ -67,11 +67,19 @@ pub(crate) fn make(
     if table.len() != TABLE_BYTES {
         return Refusal::NotAPlan.into();
     }
-    let (opened, rows) = table_in(table);
+    let mut opened = Columns::blank(0, 0);
+    let rows = table_in(table, &mut opened);
     if state.len() != STATE_BYTES {
         return untried(is_plan(&opened));
     }
-    let mut run = state_in(state, rows);
+    let mut run = State {
+        clock: 0,
+        released: [0; 128],
+        completed: [0; 128],
+        used: [0; 128],
+        guard: [0; 128],
+    };
+    state_in(state, rows, &mut run);
     let answer = called(call, &opened, &mut run, done, out);
     put_called(state, rows, answer, &run)
 }

@@ -3,6 +3,7 @@
 ghost use Rattle.std.specs.Prelude.{◌≡◌};
 ghost use Rattle.guards.specs.Outcome.{Outcome};
 ghost use Rattle.rack.specs.Layouts.{state_in, with_state};
+ghost use Rattle.rack.specs.LayoutsLaws.{blank_state};
 ghost use Rattle.rack.specs.RackCalls.{StateOutcome, kept_in};
 
 use crate::answer::RackAnswer;
@@ -12,22 +13,17 @@ use table::refusal::Refusal;
 // The length of a state list.
 pub(crate) const STATE_BYTES: usize = 4104;
 
-// The state that the list holds for a plan of so many rows.
-pub(crate) fn state_in(list: &[u8], rows: usize) -> State
-    ensures { result ≡ state_in rows list.now }
+// Opens the state that the list holds for a plan of so many rows into a state of zeros, where it lies.
+// List, rows and state are no struct, here and below: `state_in`, `with_state` and `kept_in` in the contracts take each.
+pub(crate) fn state_in(list: &[u8], rows: usize, state: &mut State)
+    requires { state.old ≡ blank_state }
+    ensures { state.new ≡ state_in rows list.now }
 {
-    let mut state = State {
-        clock: words::get(list, 0),
-        released: [0; 128],
-        completed: [0; 128],
-        used: [0; 128],
-        guard: [0; 128],
-    };
+    state.clock = words::get(list, 0);
     words::get_field(list, 1, 4, rows, &mut state.released);
     words::get_field(list, 2, 4, rows, &mut state.completed);
     words::get_field(list, 3, 4, rows, &mut state.used);
     words::get_field(list, 4, 4, rows, &mut state.guard);
-    state
 }
 
 // Writes the state of a plan of so many rows into the list.

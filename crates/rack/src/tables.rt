@@ -5,6 +5,7 @@ ghost use Rattle.facts.specs.Sums.{sum};
 ghost use Rattle.table.specs.Table.{at};
 ghost use Rattle.planned.specs.Lists.{table_in_lists};
 ghost use Rattle.columns.specs.Columns as columns;
+ghost use Rattle.columns.specs.Columns.{blank_of};
 ghost use Rattle.rack.specs.Layouts.{rows_in, table_in};
 ghost use Rattle.rack.specs.TableLaws.{TablePut};
 
@@ -31,14 +32,15 @@ pub(crate) fn rows_with_room(tasks: usize, steps: &[u64]) -> usize
     rows as usize
 }
 
-// The table that the list holds, and how many of its rows there is room for.
-pub(crate) fn table_in(list: &[u8]) -> (Columns, usize)
-    ensures { (columns.table_in result.0 ≡ table_in list.now) × (result.1 ≡ rows_in list.now) }
+// Opens the table that the list holds into columns that are blank, and answers how many of its rows there is room for.
+// It fills them where they lie: columns that are a result are copied on their way, which costs most of a call on few rows.
+pub(crate) fn table_in(list: &[u8], table: &mut Columns) -> usize
+    requires { table.old ≡ blank_of 0 0 }
+    ensures { (columns.table_in table.new ≡ table_in list.now) × (result ≡ rows_in list.now) }
 {
-    let processors = words::get(list, 0);
-    let tasks = words::get(list, 1);
-    let chains = tasks.min(MOST_TASKS) as usize;
-    let mut table = Columns::blank(processors, tasks);
+    table.processors = words::get(list, 0);
+    table.tasks = words::get(list, 1);
+    let chains = table.tasks.min(MOST_TASKS) as usize;
     words::get_field(list, 2, 3, chains, &mut table.period);
     words::get_field(list, 3, 3, chains, &mut table.deadline);
     words::get_field(list, 4, 3, chains, &mut table.steps);
@@ -46,7 +48,7 @@ pub(crate) fn table_in(list: &[u8]) -> (Columns, usize)
     words::get_field(list, 98, 3, rows, &mut table.processor);
     words::get_field(list, 99, 3, rows, &mut table.priority);
     words::get_field(list, 100, 3, rows, &mut table.time);
-    (table, rows)
+    rows
 }
 
 // Writes a table into the list, and answers the number of its rows.

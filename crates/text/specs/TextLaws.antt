@@ -72,6 +72,22 @@ pub appended_then :
     → w ≡ appended (a ++ b) l at
 appended_then a b l at e g = rw (appended_append a b l at, ← e) g
 
+-- Of bytes that reach past the list only those count that it has room for, and they end where the list ends.
+pub appended_cut :
+    (bs l : List ℕ) (at k : ℕ) {v : List ℕ} → k ≡ length l - at → at ≤ length l → k ≤ length bs
+    → record { list = v; end = at + length (take k bs) } ≡ appended (take k bs) l at
+    → record { list = v; end = length v } ≡ appended bs l at
+appended_cut bs l at k {v} e h g f =
+    let size : length v ≡ length l = ap (λ (w : Written). length w.list) f ∙ length_appended (take k bs) l at in
+    let end : length v ≡ at + length (take k bs) = omega (arith, size, length-take-le k bs g) in
+    let whole : appended (take k bs) l at ≡ appended bs l at =
+    sym
+    (ap (λ (t : List ℕ). appended t l at) (sym (take-append-drop k bs))
+    ∙ appended_append (take k bs) (drop k bs) l at
+    ∙ appended_full (drop k bs) (appended (take k bs) l at).list (appended (take k bs) l at).end
+    (omega (arith, end_appended (take k bs) l at, length_appended (take k bs) l at, length-take-le k bs g))) in
+    rw end (f ∙ whole)
+
 -- Bytes that all have room are stored one after the other.
 appended_sets :
     (bs l : List ℕ) (at : ℕ) → at + length bs ≤ length l

@@ -5,13 +5,25 @@
 
 mod decimal;
 
-ghost use Rattle.std.specs.Prelude.{◌≡◌, [], ◌∷◌, ◌++◌};
+ghost use Rattle.std.specs.Prelude.{◌≡◌, ◌+◌, ◌≤◌, length, [], ◌∷◌, ◌++◌};
 ghost use Rattle.text.specs.Text.{Written, appended, decimal, line, minus_line};
 
 use decimal::append_decimal;
 
+// Stores the bytes from `at` on, where the list has room for all of them.
+// Byte by byte, no `copy_from_slice`: that is a call of memmove, which a host in C would have to bring. Of a literal, this copies so many
+// bytes as the code says, with no call.
+fn store(out: &mut [u8], at: usize, bytes: &[u8])
+    requires { at + length bytes.now ≤ length out.old }
+    ensures { ◌≡◌ {A = Written} (record { list = out.new; end = at + length bytes.now }) (appended bytes.now out.old at) }
+{
+    for i in 0..bytes.len() {
+        out[at + i] = bytes[i];
+    }
+}
+
 // Appends the bytes.
-#[tactic(auto, using(crate::specs::TextLaws::appended_full, crate::specs::TextLaws::appended_whole, crate::specs::TextLaws::appended_rest))]
+#[tactic(auto, using(crate::specs::TextLaws::appended_full))]
 pub fn append(out: &mut [u8], at: usize, bytes: &[u8]) -> usize
     ensures { ◌≡◌ {A = Written} (record { list = out.new; end = result }) (appended bytes.now out.old at) }
 {
@@ -20,11 +32,10 @@ pub fn append(out: &mut [u8], at: usize, bytes: &[u8]) -> usize
     }
     let room = out.len() - at;
     if bytes.len() <= room {
-        // Where the bytes are a literal, this copies so many bytes as the code says, with no call.
-        out[at..at + bytes.len()].copy_from_slice(bytes);
+        store(out, at, bytes);
         return at + bytes.len();
     }
-    out[at..].copy_from_slice(&bytes[..room]);
+    store(out, at, &bytes[..room]);
     out.len()
 }
 
@@ -45,6 +56,8 @@ pub fn append_minus_line(out: &mut [u8], at: usize, key: &[u8], value: u64) -> u
 }
 
 // Appends the key, the mark that stands before the value, the value and an LF.
+// Inlined whole, so that a key that is a literal is stored as one.
+#[inline(always)]
 #[tactic(auto, using(crate::specs::TextLaws::appended_then))]
 fn append_marked(out: &mut [u8], at: usize, key: &[u8], mark: &[u8], value: u64) -> usize
     ensures { ◌≡◌ {A = Written} (record { list = out.new; end = result })

@@ -15,4 +15,4 @@ returns-then-state-ne-STATE_BYTES c =
 pub returns : goal.returns
 returns c =
     call_made _ _ _ _ _ c.if-table-ne-TABLE_BYTES.false c.if-state-ne-STATE_BYTES.false c.table_in-rows.ensures.1 c.table_in-rows.ensures.0
-    (called_on_is _ _ _ _ _ _ c.state_in-run.ensures c.called-answer.ensures c.put_called.ensures)
+    (called_on_is _ _ _ _ _ _ c.state_in.ensures c.called-answer.ensures c.put_called.ensures)

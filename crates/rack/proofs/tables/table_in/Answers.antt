@@ -7,9 +7,9 @@ use Rattle.rack.proofs.tables.table_in.Goals as goal
 pub returns : goal.returns
 returns c =
     let l = c.args.list.now in
-    let b = c.blank-table.ensures in
+    let b = c.requires in
     let n = c.min-chains.result in
-    let r = table_read l blank_table _ n _ c.get-tasks.ensures c.min-chains.ensures
+    let r = table_read l blank_table _ n _ c.get-table-2.ensures c.min-chains.ensures
     (c.get_field.ensures ∙ ap (λ (k : Columns). gathered l 2 3 n k.period) b)
     (c.get_field-2.ensures ∙ ap (λ (k : Columns). gathered l 3 3 n k.deadline) b)
     (c.get_field-3.ensures ∙ ap (λ (k : Columns). gathered l 4 3 n k.steps) b)
@@ -17,6 +17,6 @@ returns c =
     (c.get_field-4.ensures ∙ ap (λ (k : Columns). gathered l 98 3 c.rows_with_room-rows.result k.processor) b)
     (c.get_field-5.ensures ∙ ap (λ (k : Columns). gathered l 99 3 c.rows_with_room-rows.result k.priority) b)
     (c.get_field-6.ensures ∙ ap (λ (k : Columns). gathered l 100 3 c.rows_with_room-rows.result k.time) b) in (
-      table_opened r (ap (λ (k : Columns). k.processors) b ∙ c.get-processors.ensures) (ap (λ (k : Columns). k.tasks) b ∙ c.get-tasks.ensures),
+      table_opened r c.get-table.ensures c.get-table-2.ensures,
       rows_opened r,
     )
