@@ -1,4 +1,4 @@
-use Rattle.std.proofs.Common.{sym, ◌∙◌, le-leb}
+use Rattle.std.proofs.Common.{sym, ◌∙◌, le-leb, arith}
 use borrow.Author.Tests.{lt-leb}
 use Rattle.table.specs.RangesLaws.{within_of}
 use Rattle.table.specs.Ranges.{range_of, ranges}
@@ -29,10 +29,10 @@ pub returns-then-rows-gt-MOST_ROWS : goal.returns-then-rows-gt-MOST_ROWS
 unfolding is_plan rows
 returns-then-rows-gt-MOST_ROWS g c =
     rw (← c.processors-processors.ensures, ← c.tasks-tasks.ensures, sym c.in_range.ensures ∙ c.if-not-in_range.false, sym c.in_range-2.ensures ∙ c.if-not-in_range-2.false, sym c.tasks_right.ensures ∙ c.if-not-tasks_right.false)
-    (rw (← c.first_row-rows.ensures, lt-leb _ _ c.if-rows-gt-MOST_ROWS.true))
+    (rw (← c.first_row-rows.ensures, lt-leb c.first_row-rows.result 128 (omega arith)))
 
 pub returns : goal.returns
 unfolding is_plan rows
 returns g c =
     rw (← c.processors-processors.ensures, ← c.tasks-tasks.ensures, sym c.in_range.ensures ∙ c.if-not-in_range.false, sym c.in_range-2.ensures ∙ c.if-not-in_range-2.false, sym c.tasks_right.ensures ∙ c.if-not-tasks_right.false)
-    (rw (← c.first_row-rows.ensures, le-leb _ _ c.if-rows-gt-MOST_ROWS.false) c.rows_right.ensures)
+    (rw (← c.first_row-rows.ensures, le-leb c.first_row-rows.result 128 (omega arith)) c.rows_right.ensures)
