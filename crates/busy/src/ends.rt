@@ -70,6 +70,8 @@ impl Ends {
     }
 
     // The clock climbs to the busy length, `span`, past every end of an instance of a tied row: `best` has their bounds.
+    // Never inlined, for speed, as `Clock::advance`.
+    #[inline(never)]
     pub(crate) fn find(&mut self, level: &Level, span: u64, clock: &mut Clock)
         requires any { 0 < level.now.count }
         requires busy { Least (level_work (level_in level.now)) span × (span ≤ 10000000) }
